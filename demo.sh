@@ -1,0 +1,70 @@
+#!/usr/bin/env bash
+# Builds cmpca and shows its answers: one message that verifies, and one refusal of each kind.
+# Safe to run twice; nothing is left behind. Ends with status 1 where an answer isn't the one told.
+set -euo pipefail
+
+top=$(cd "$(dirname "$0")" && pwd)
+program=$("$top/bench/build.sh") || exit 1
+
+# The secret of the device, `secret-1`
+secret=7365637265742d31
+# sender and recipient: a directoryName without parts
+names=a4023000a4023000
+# protectionAlg: PBMAC1 with PBKDF2 (salt 00 to 07, one iteration) and HMAC-SHA-256 (RFC 8018, A.5)
+algorithm=a147304506092a864886f70d01050e3038302806092a864886f70d01050c301b04080001020304050607020101300c06082a864886f70d02090500300c06082a864886f70d02090500
+# 0 iterations, which is outside the limits
+no_rounds=${algorithm/607020101/607020100}
+# pkiconf, and the MAC over header and body (made by Python's hashlib and hmac)
+body=b3020500
+mac=ff6a9dbf6e6138e94cfcaef5b41c0ce8dd9ad7680cd93ea723645c0f278bbcdb
+protection=a023032100
+
+header=3054020102$names$algorithm
+later=3067020102${names}a011180f32303233313131343232313332305a$algorithm
+wrong=${mac%b}a
+
+failed=0
+
+# Writes the octets of a hexadecimal word.
+octets() {
+    local hex=$1 text=
+    while [ -n "$hex" ]; do
+        text+="\\x${hex:0:2}"
+        hex=${hex:2}
+    done
+    printf '%b' "$text"
+}
+
+# Runs the program on a message: title, message, the answer and the status that are told, words.
+show() {
+    local title=$1 message=$2 told=$3 status=0 answer
+    local told_status=$4
+    shift 4
+    answer=$(octets "$message" | "$program" "$@") || status=$?
+    printf '%s\n  $ cmpca %s\n  %s\n  status %s\n' "$title" "$*" "$answer" "$status"
+    if [ "$answer" != "$told" ] || [ "$status" != "$told_status" ]; then
+        printf '  but this was told: %s, status %s\n' "$told" "$told_status"
+        failed=1
+    fi
+}
+
+show "A pkiconf with the right MAC" \
+    "307f$header$body$protection$mac" "protection verified" 0 verify $secret
+show "The last bit of its MAC changed" \
+    "307f$header$body$protection$wrong" "refused badMessageCheck" 1 verify $secret
+show "Checked under another secret" \
+    "307f$header$body$protection$mac" "refused badMessageCheck" 1 verify 7365637265742d32
+show "Without protection" \
+    "305a$header$body" "refused badMessageCheck" 1 verify $secret
+show "A length that isn't as short as DER asks (X.690, 10.1)" \
+    "3081803081${header:2:2}${header:4}$body$protection$mac" "refused badDataFormat" 1 verify $secret
+show "No octets at all" \
+    "" "refused badDataFormat" 1 verify $secret
+show "No iterations in the parameters of PBKDF2" \
+    "307f${header/$algorithm/$no_rounds}$body$protection$mac" "refused badAlg" 1 verify $secret
+show "With a messageTime, a field that isn't read yet" \
+    "308192$later$body$protection$mac" "refused later form" 1 verify $secret
+show "A secret of 4 octets" \
+    "" "usage: cmpca verify SECRET | JOURNAL KEY COMMAND" 2 verify 4a656665
+
+exit $failed
