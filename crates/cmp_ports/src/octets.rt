@@ -1,5 +1,5 @@
 //! A list of octets that owns its memory.
-ghost use Rattle.std.specs.Prelude.{◌≡◌, ◌==◌, List, [], ◌++◌, length, IfOk, OnOk, OnErr};
+ghost use Rattle.std.specs.Prelude.{◌≡◌, ◌==◌, List, [], ◌++◌, length, take, IfOk, OnOk, OnErr};
 
 use std::alloc::{AllocError, Global};
 use std::marker::Model;
@@ -78,6 +78,13 @@ impl Octets {
         ensures err { OnErr result (self.new ≡ self.old) }
     {
         self.bytes.extend_from_slice(more)
+    }
+
+    /// Keeps the first `n` octets, or all where there are fewer, and keeps the memory.
+    pub fn truncate(&mut self, n: usize)
+        ensures { self.new ≡ take n self.old }
+    {
+        self.bytes.truncate(n);
     }
 
     /// Takes all octets away and keeps the memory.
