@@ -1,13 +1,15 @@
 #!/bin/sh
-# Builds cmpca where its sources are newer than the program, and prints the program's path.
-# Where there is no crate or no rt, a line on standard error says so, and the status is 1.
+# Builds a program of this repository where its sources are newer, and prints the program's path.
+# Words: the crate, or none for cmpca. Where there is no crate or no rt, a line on standard error says so,
+# and the status is 1.
 set -eu
 
-crate=$(cd "$(dirname "$0")/.." && pwd)/crates/cmpca
-program=$crate/out/cmpca
+name=${1:-cmpca}
+crate=$(cd "$(dirname "$0")/.." && pwd)/crates/$name
+program=$crate/out/$name
 
 if [ ! -d "$crate/src" ]; then
-    echo "skipped: no crate cmpca" >&2
+    echo "skipped: no crate $name" >&2
     exit 1
 fi
 if [ -x "$program" ] && [ -z "$(find "$crate/.." -name '*.rt' -newer "$program" -print -quit)" ]; then
@@ -15,17 +17,16 @@ if [ -x "$program" ] && [ -z "$(find "$crate/.." -name '*.rt' -newer "$program" 
     exit 0
 fi
 if ! command -v rt >/dev/null; then
-    echo "skipped: cmpca isn't built (no rt)" >&2
+    echo "skipped: $name isn't built (no rt)" >&2
     exit 1
 fi
-# With the word `frob` the program prints its usage and ends.
+# With a word that they don't know the programs print their usage and end.
 log=$(mktemp)
+trap 'rm -f "$log"' EXIT
 (cd "$crate" && rt run -- frob </dev/null >"$log" 2>&1) || true
 if [ ! -x "$program" ]; then
     cat "$log" >&2
-    rm -f "$log"
-    echo "skipped: cmpca isn't built" >&2
+    echo "skipped: $name isn't built" >&2
     exit 1
 fi
-rm -f "$log"
 echo "$program"
