@@ -1,7 +1,8 @@
-"""Runs two programs in turns and joins the timings that they print.
+"""Runs programs in turns and joins the timings that they print.
 
-Words: the number of turns, our command and the other's. Each prints lines of a name, a tab and nanoseconds;
-of a name that stands in several turns the least counts.
+Words: the number of turns, and for each program its title, `=` and its command; ours is the first. Each prints
+lines of a name, a tab and nanoseconds; of a name that stands in several turns the least counts. Behind the
+others' timings stands how many times ours they are.
 """
 
 import shlex
@@ -20,18 +21,26 @@ def timings(command: str) -> dict[str, int]:
 
 
 def main() -> None:
-    turns, commands = int(sys.argv[1]), sys.argv[2:]
-    least: list[dict[str, int]] = [{}, {}]
+    turns = int(sys.argv[1])
+    programs = [word.split("=", 1) for word in sys.argv[2:]]
+    least: list[dict[str, int]] = [{} for _ in programs]
     for _ in range(turns):
-        for kept, command in zip(least, commands):
+        for kept, (_, command) in zip(least, programs):
             for name, value in timings(command).items():
                 kept[name] = min(value, kept.get(name, value))
-    ours, others = least
-    print(f"{'least of ' + str(turns) + ' turns':24} {'ours':>14} {'other':>14}  other / ours")
-    for name in dict.fromkeys([*ours, *others]):
-        columns = [f"{side[name] / 1000:11.1f} us" if name in side else f"{'-':>14}" for side in least]
-        ratio = f"{others[name] / ours[name]:8.2f}" if name in ours and name in others and ours[name] else ""
-        print(f"{name:24} {columns[0]} {columns[1]}  {ratio}".rstrip())
+    ours = least[0]
+    titles = [f"{title:>14}" for title, _ in programs]
+    print(f"{f'least of {turns} turns':24} " + titles[0] + "".join(f"{title}  times ours" for title in titles[1:]))
+    for name in dict.fromkeys(name for side in least for name in side):
+        line = f"{name:24} " + column(ours, name)
+        for side in least[1:]:
+            known = name in side and ours.get(name)
+            line += column(side, name) + (f"{side[name] / ours[name]:12.2f}" if known else " " * 12)
+        print(line.rstrip())
+
+
+def column(side: dict[str, int], name: str) -> str:
+    return f"{side[name] / 1000:11.1f} us" if name in side else f"{'-':>14}"
 
 
 if __name__ == "__main__":

@@ -25,4 +25,4 @@ core=
 if command -v taskset >/dev/null; then
     core="taskset -c 0"
 fi
-python3 -B "$here/join.py" 2 "$core $program $*" "$core java -cp $classes:$jar LmsBench $*"
+python3 -B "$here/join.py" 2 "ours=$core $program $*" "Bouncy Castle=$core java -cp $classes:$jar LmsBench $*"
