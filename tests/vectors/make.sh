@@ -1,6 +1,6 @@
 #!/bin/sh
 # Makes the vectors anew in a folder, and checks those of LMS by a second implementation.
-# Words: the folder. Without javac, java or Bouncy Castle the LMS vectors are skipped.
+# Words: the folder. Without javac, java or Bouncy Castle its vectors are skipped.
 set -eu
 
 here=$(cd "$(dirname "$0")" && pwd)
@@ -15,20 +15,23 @@ python3 "$here/mac_vectors.py" >"$out/hmac.txt"
 python3 "$here/frame_vectors.py" "$out/frame.der" >"$out/frames.txt"
 echo "hmac.txt, frames.txt and frame.der are made"
 
-jar=${BCPROV:-/usr/share/java/bcprov.jar}
+jars=${BCJARS:-/usr/share/java}
+path=$jars/bcprov.jar:$jars/bcutil.jar
 if ! command -v javac >/dev/null || ! command -v java >/dev/null; then
-    echo "skipped: LMS (no JDK)"
+    echo "skipped: LMS and ASN.1 (no JDK)"
     exit 0
 fi
-if [ ! -e "$jar" ]; then
-    echo "skipped: LMS ($jar is missing: Debian's libbcprov-java)"
+if [ ! -e "$jars/bcprov.jar" ] || [ ! -e "$jars/bcutil.jar" ]; then
+    echo "skipped: LMS and ASN.1 ($jars has no bcprov.jar and bcutil.jar: Debian's libbcpkix-java)"
     exit 0
 fi
 classes=$(mktemp -d)
 trap 'rm -rf "$classes"' EXIT
-javac -cp "$jar" -d "$classes" \
-    "$here/java/org/bouncycastle/pqc/crypto/lms/Inside.java" "$here/java/LmsVectors.java"
+javac -cp "$path" -d "$classes" "$here/java/org/bouncycastle/pqc/crypto/lms/Inside.java" \
+    "$here/java/LmsVectors.java" "$here/java/AsnVectors.java"
+java -Dstdout.encoding=UTF-8 -cp "$classes:$path" AsnVectors >"$out/asn.txt"
+echo "asn.txt is made"
 for part in ots trees hss; do
-    java -cp "$classes:$jar" LmsVectors "$part" >"$out/lms_$part.txt"
+    java -cp "$classes:$path" LmsVectors "$part" >"$out/lms_$part.txt"
 done
 python3 "$here/check_lms.py" "$out/lms_ots.txt" "$out/lms_trees.txt" "$out/lms_hss.txt"
