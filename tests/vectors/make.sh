@@ -13,7 +13,8 @@ if ! command -v python3 >/dev/null; then
 fi
 python3 "$here/mac_vectors.py" >"$out/hmac.txt"
 python3 "$here/frame_vectors.py" "$out/frame.der" >"$out/frames.txt"
-echo "hmac.txt, frames.txt and frame.der are made"
+python3 "$here/change_vectors.py" >"$out/changes.txt"
+echo "hmac.txt, frames.txt, frame.der and changes.txt are made"
 
 jars=${BCJARS:-/usr/share/java}
 path=$jars/bcprov.jar:$jars/bcutil.jar
