@@ -1,1 +1,6 @@
 pub mod Filled
+pub mod Faults
+pub mod Schedule
+pub mod MemSource
+pub mod MemSink
+pub mod Whole

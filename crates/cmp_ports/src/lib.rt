@@ -3,10 +3,27 @@
 //! small lists of octets that every layer speaks of.
 #![tactic(auto)]
 
+mod faults;
+mod mem_sink;
+mod mem_source;
 mod octets;
+mod schedule;
 mod short;
+mod sink;
+mod source;
+mod std_stream;
+#[cfg(test)]
+mod tests;
 mod text;
+mod whole;
 
+pub use faults::Failed;
+pub use mem_sink::MemSink;
+pub use mem_source::MemSource;
 pub use octets::Octets;
 pub use short::Short;
+pub use sink::Sink;
+pub use source::Source;
+pub use std_stream::{ReadSource, StdSink, StdSource, WriteSink};
 pub use text::Text;
+pub use whole::{ReadError, read_up_to, write_all};

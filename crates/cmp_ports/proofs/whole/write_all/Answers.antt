@@ -1,0 +1,12 @@
+-- Each piece is written behind those before it.
+use Rattle.std.proofs.Common.{arith, rules}
+use Rattle.cmp_ports.proofs.StreamLemmas.{written_more}
+use Rattle.cmp_ports.proofs.whole.write_all.Goals as goal
+
+pub loop-done-preserved : goal.loop-done-preserved
+loop-done-preserved g c = record {
+  within = omega (arith, c.in_ok-done.ensures.bound, c.split_at.ensures.back_len);
+  written = let e = c.split_at.ensures.back in written_more _ _ _ _ _ _ c.loop-done.invariant.within c.loop-done.invariant.written
+      (rw e at c.in_ok-done.ensures.bytes);
+  faults = search (rules, c.in_ok-done.ensures.cause.kept);
+}
