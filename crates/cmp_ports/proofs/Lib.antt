@@ -1,2 +1,3 @@
 mod ShortLemmas
 mod StreamLemmas
+mod Tapes

@@ -1,6 +1,14 @@
-pub mod Filled
+pub mod Disk
 pub mod Faults
-pub mod Schedule
-pub mod MemSource
+pub mod Filled
+pub mod MemDisk
+pub mod MemDiskLaws
 pub mod MemSink
+pub mod MemSource
+pub mod Moments
+pub mod Replay
+pub mod ReplayLaws
+pub mod Schedule
+pub mod Tape
+pub mod Untold
 pub mod Whole

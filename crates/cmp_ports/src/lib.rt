@@ -3,7 +3,10 @@
 //! small lists of octets that every layer speaks of.
 #![tactic(auto)]
 
+mod disk;
 mod faults;
+mod file_disk;
+mod mem_disk;
 mod mem_sink;
 mod mem_source;
 mod octets;
@@ -17,7 +20,10 @@ mod tests;
 mod text;
 mod whole;
 
+pub use disk::Disk;
 pub use faults::Failed;
+pub use file_disk::FileDisk;
+pub use mem_disk::MemDisk;
 pub use mem_sink::MemSink;
 pub use mem_source::MemSource;
 pub use octets::Octets;
