@@ -32,11 +32,12 @@ public final class LmsBench {
 
     private static void timeOneTime(int code) throws Exception {
         String width = " w" + (1 << (code - 1));
-        int count = 800 >> code;
+        int count = code == 4 ? 1 : 5;
+        int turns = code == 4 ? 400 : 800;
         byte[] signature = Inside.signOts(code, SEED, ID, 0, TEXT);
-        show("public_hash" + width, least(count, 8, q -> Inside.publicHash(code, SEED, ID, q)));
-        show("sign_ots" + width, least(count, 8, q -> quietly(() -> Inside.signOts(code, SEED, ID, q, TEXT))));
-        show("candidate" + width, least(count, 8, q -> quietly(() -> Inside.candidate(code, ID, 0, TEXT, signature))));
+        show("public_hash" + width, least(count, turns, q -> Inside.publicHash(code, SEED, ID, q)));
+        show("sign_ots" + width, least(count, turns, q -> quietly(() -> Inside.signOts(code, SEED, ID, q, TEXT))));
+        show("candidate" + width, least(count, turns, q -> quietly(() -> Inside.candidate(code, ID, 0, TEXT, signature))));
     }
 
     private static void timeTree(String set, LMSigParameters tree, LMOtsParameters ots, int turns) {
@@ -47,10 +48,10 @@ public final class LmsBench {
         LMSSigner signer = new LMSSigner();
         signer.init(true, key);
         byte[] signature = signer.generateSignature(TEXT);
-        show("sign " + set, least(3, 8, turn -> signer.generateSignature(TEXT)));
+        show("sign " + set, least(1, 25, turn -> signer.generateSignature(TEXT)));
         LMSSigner verifier = new LMSSigner();
         verifier.init(false, open);
-        show("verify " + set, least(50, 8, turn -> {
+        show("verify " + set, least(1, 400, turn -> {
             if (!verifier.verifySignature(TEXT, signature)) {
                 throw new IllegalStateException("a signature isn't verified");
             }
@@ -61,7 +62,7 @@ public final class LmsBench {
         new LMSPrivateKeyParameters(tree, ots, 0, ID, 1 << tree.getH(), SEED).getPublicKey();
     }
 
-    /** The least nanoseconds of one operation, in turns of {@code count} operations; the first turn warms up. */
+    /** The least nanoseconds of one operation, in short turns of {@code count} operations; the first ones warm up. */
     private static long least(int count, int turns, IntConsumer operation) {
         long least = Long.MAX_VALUE;
         for (int turn = 0; turn < turns; turn++) {
