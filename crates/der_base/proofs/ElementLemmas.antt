@@ -1,12 +1,12 @@
 -- An element is read exactly where it is spelled, and its faults come in their order.
-use Rattle.std.proofs.Common.{◌≡◌, ◌≢◌, ℕ, ◌+◌, ◌-◌, ◌*◌, ◌/◌, ◌%◌, ◌^◌, ◌<◌, ◌≤◌, ◌++◌, Bool, true, false, not, eqb, ltb, leb, cond, List, [], ◌∷◌, length, get_or, take, drop, Result, Ok, Err, IsTrue, ◌↔◌, refl, sym, ap, append_assoc, subst, ◌∙◌, arith, rules, tests, ltb-false, ltb-true}
+use Rattle.std.proofs.Common.{◌≡◌, ◌≢◌, ℕ, ◌+◌, ◌-◌, ◌%◌, ◌^◌, ◌<◌, ◌≤◌, ◌++◌, Bool, true, false, not, ltb, cond, List, [], ◌∷◌, length, get_or, take, drop, Result, Ok, Err, IsTrue, ◌↔◌, refl, sym, ap, append_assoc, subst, ◌∙◌, arith, ltb-false, ltb-true}
 use Rattle.std.proofs.lemmas.Bool.{eqb-false}
 use Rattle.std.proofs.lemmas.Grind.{common_steps}
 use Rattle.std.proofs.lemmas.Bool.Decides.{nat_tests}
 use Rattle.std.proofs.lemmas.List.{length-take, length-drop, length-append, take-append-drop, drop-drop, take_at, drop_at}
-use Rattle.der_base.proofs.LengthLemmas.{own, IsOwn, length_octets-cut, begins_with-own, begins_with-take, and_parts}
+use Rattle.der_base.proofs.LengthLemmas.{own, IsOwn, length_octets-cut, begins_with-own, and_parts}
 use Rattle.der_base.specs.Element.{element, length_octets, IsElement, HasOneSpelling, BeginsNoOther}
-use Rattle.der_base.specs.Reading.{Part, part, big_endian, more_of, stands_for, begins_with, is_short, is_bad_tag, is_bad_length, split_at, element_at}
+use Rattle.der_base.specs.Reading.{Part, part, more_of, stands_for, begins_with, is_short, is_bad_tag, is_bad_length, split_at, element_at}
 use Rattle.der_base.specs.declared.fault.DerFault.{DerFault}
 use Rattle.der_base.specs.declared.fault.DerFault.TheVariants.{Short, BadTag, BadLength, Trailing}
 
@@ -217,7 +217,7 @@ not_true : (a : Bool) → not a ≡ false → a ≡ true
 not_true true h = refl
 not_true false h = cc
 
-made : (p : Part) → p.whole ≡ element p.tag p.content → p ≡ part p.tag p.content
+pub made : (p : Part) → p.whole ≡ element p.tag p.content → p ≡ part p.tag p.content
 made p e = ap (λ (w : List ℕ). let q : Part = record { tag = p.tag; content = p.content; whole = w } in q) e
 
 taken_by : (tag first : ℕ) (rest : List ℕ) (n : ℕ) (p : Part) (r : List ℕ) → more_of first + n ≤ length rest → tag % 32 ≢ 31 → n < 2 ^ 32 → begins_with (first ∷ rest) (length_octets n) ≡ true → p ≡ part tag (take n (drop (more_of first) rest)) → r ≡ drop (more_of first + n) rest → IsTaken (tag ∷ first ∷ rest) p r

@@ -1,5 +1,5 @@
 -- The octets of a length, case by case.
-use Rattle.std.proofs.Common.{◌≡◌, ◌≢◌, ℕ, ◌+◌, ◌-◌, ◌*◌, ◌/◌, ◌%◌, ◌^◌, ◌<◌, ◌≤◌, ◌++◌, ◌&&◌, Bool, true, false, eqb, ltb, leb, cond, List, [], ◌∷◌, length, get_or, take, drop, eqb-true, refl, sym, ap, subst, ◌∙◌, inl, inr, arith, rules, tests}
+use Rattle.std.proofs.Common.{◌≡◌, ℕ, ◌/◌, ◌%◌, ◌^◌, ◌<◌, ◌≤◌, ◌++◌, ◌&&◌, Bool, true, false, eqb, ltb, leb, cond, List, [], ◌∷◌, length, get_or, take, eqb-true, refl, subst, inl, inr, arith}
 use Rattle.std.proofs.lemmas.Grind.{common_steps}
 use Rattle.std.proofs.lemmas.Bool.Decides.{nat_tests}
 use Rattle.std.proofs.lemmas.Bool.{cases_lt}
@@ -112,14 +112,18 @@ own_five n l h = record { parts = length_octets-five n l; counted = refl; number
 pub own : (n : ℕ) → n < 2 ^ 32 → (head : ℕ) × ((tail : List ℕ) × IsOwn n head tail)
 own n h =
     elim (cases_lt n 128) [
-      inl a ↦ (_, (_, own_one n a))
-    | inr a ↦ elim (cases_lt n 256) [
-        inl b ↦ (_, (_, own_two n a b))
-      | inr b ↦ elim (cases_lt n (2 ^ 16)) [
-          inl d ↦ (_, (_, own_three n b d))
-        | inr d ↦ elim (cases_lt n (2 ^ 24)) [
-            inl f ↦ (_, (_, own_four n d f))
-          | inr f ↦ (_, (_, own_five n f h)) ] ] ] ]
+      | inl a ↦ (_, (_, own_one n a))
+      | inr a ↦ elim (cases_lt n 256) [
+        | inl b ↦ (_, (_, own_two n a b))
+        | inr b ↦ elim (cases_lt n (2 ^ 16)) [
+          | inl d ↦ (_, (_, own_three n b d))
+          | inr d ↦ elim (cases_lt n (2 ^ 24)) [
+            | inl f ↦ (_, (_, own_four n d f))
+            | inr f ↦ (_, (_, own_five n f h))
+          ]
+        ]
+      ]
+    ]
 
 pub and_parts : (a b : Bool) → a && b ≡ true → (a ≡ true) × (b ≡ true)
 and_parts true b h = (refl, h)
@@ -151,4 +155,3 @@ cut_from first rest n o b = cut_by first rest n o.0 o.1.0 o.1.1 (subst (λ (l : 
 -- octets that begin with a length begin with its octets, as many as its first one tells
 pub length_octets-cut : (first : ℕ) (rest : List ℕ) (n : ℕ) → n < 2 ^ 32 → begins_with (first ∷ rest) (length_octets n) ≡ true → length_octets n ≡ first ∷ take (more_of first) rest
 length_octets-cut first rest n h b = cut_from first rest n (own n h) b
-

@@ -1,2 +1,4 @@
-pub mod LengthLemmas
 pub mod ElementLemmas
+pub mod LengthLemmas
+pub mod ReaderLemmas
+pub mod RowLemmas

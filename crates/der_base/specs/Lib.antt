@@ -1,2 +1,4 @@
 pub mod Element
 pub mod Reading
+pub mod Row
+pub mod Values

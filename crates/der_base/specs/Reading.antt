@@ -1,5 +1,5 @@
 -- What reading an element from the front of octets gives, and its faults in their order.
-use Rattle.std.specs.Prelude.{◌≡◌, ℕ, ◌+◌, ◌-◌, ◌*◌, ◌%◌, ◌^◌, ◌++◌, Bool, true, false, not, ◌||◌, ◌&&◌, ◌==◌, nat_lt, if◌then◌else◌, List, [], ◌∷◌, length, fold, take, drop, Result, Ok, Err}
+use Rattle.std.specs.Prelude.{◌≡◌, ℕ, ◌+◌, ◌-◌, ◌*◌, ◌%◌, ◌^◌, Bool, true, false, not, ◌&&◌, ◌==◌, nat_lt, if◌then◌else◌, List, [], ◌∷◌, length, fold, take, drop, Result, Ok, Err}
 use Rattle.der_base.specs.Element.{element, length_octets}
 use Rattle.der_base.specs.declared.element.Element.{Element}
 use Rattle.der_base.specs.declared.fault.DerFault.{DerFault}
@@ -67,18 +67,19 @@ unfoldable pub element_at : List ℕ → Result (Part × List ℕ) DerFault
 element_at [] = Err Short
 element_at (tag ∷ []) = Err Short
 element_at (tag ∷ first ∷ rest) =
-  if is_short (tag ∷ first ∷ rest) then Err Short
-  else (if is_bad_tag (tag ∷ first ∷ rest) then Err BadTag
-  else (if is_bad_length (tag ∷ first ∷ rest) then Err BadLength
-  else Ok (split_at tag first rest)))
+    if is_short (tag ∷ first ∷ rest) then Err Short
+    else (if is_bad_tag (tag ∷ first ∷ rest) then Err BadTag
+    else (if is_bad_length (tag ∷ first ∷ rest) then Err BadLength
+    else Ok (split_at tag first rest)))
+
+-- the element that was read, where nothing is over
+abbrev pub sole_of : Result (Part × List ℕ) DerFault → Result Part DerFault
+sole_of (Ok r) = if length r.1 == 0 then Ok r.0 else Err Trailing
+sole_of (Err f) = Err f
 
 -- the one element that the octets are
 unfoldable pub whole_at : List ℕ → Result Part DerFault
-whole_at bytes = sole (element_at bytes)
-  where
-  sole : Result (Part × List ℕ) DerFault → Result Part DerFault
-  sole (Ok r) = if length r.1 == 0 then Ok r.0 else Err Trailing
-  sole (Err e) = Err e
+whole_at bytes = sole_of (element_at bytes)
 
 -- What a function returned, seen by view, is what reading gives.
 abbrev pub Reads : {X Y : Type 0} → (X → Y) → Result X DerFault → Result Y DerFault → Type 0

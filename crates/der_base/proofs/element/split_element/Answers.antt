@@ -1,7 +1,5 @@
 -- The octets are cut behind the tag and the octets of the length; each return is what reading gives there.
-use Rattle.std.proofs.Common.{◌≡◌, ◌≢◌, ℕ, ◌+◌, ◌-◌, ◌%◌, ◌<◌, ◌≤◌, List, length, ◌∷◌, ◌++◌, take, drop, true, false, refl, sym, ap, subst, ◌∙◌, arith, get_or}
-use Rattle.der_base.specs.Element.{length_octets}
-use Rattle.der_base.specs.Reading.{begins_with}
+use Rattle.std.proofs.Common.{refl, ◌∙◌, arith, get_or}
 use Rattle.der_base.proofs.ElementLemmas.{behind_two, two_in_front, reads_short, short_behind, bad_tag_behind, bad_length_behind, read_behind, IsBehind}
 use Rattle.der_base.proofs.element.split_element.Goals as goal
 
