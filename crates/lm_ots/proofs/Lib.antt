@@ -1,0 +1,4 @@
+pub mod ChainLemmas
+pub mod Law
+pub mod Messages
+pub mod Parts

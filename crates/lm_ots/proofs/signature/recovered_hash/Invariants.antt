@@ -1,0 +1,10 @@
+-- The hasher holds the ends of the chains so far.
+use Rattle.std.proofs.Common.{◌++◌}
+use Rattle.sha2.specs.Hashers.{Holds256}
+use Rattle.lm_ots.specs.Chains.{prefix, joined}
+use Rattle.lm_ots.specs.Signatures.{recovered_end}
+use Rattle.lm_ots.proofs.signature.recovered_hash.Given as goal
+
+abbrev pub invariant-loop-i : goal.invariant-loop-i
+invariant-loop-i g l = Holds256 l.hasher (prefix l.id l.q 0x8080
+    ++ joined (recovered_end (record { w = g.row.W; p = g.row.P; ls = g.row.LS }) l.id l.q l.octets l.sig) l.i)
