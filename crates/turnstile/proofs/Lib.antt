@@ -1,0 +1,9 @@
+mod Totals
+mod Beginnings
+mod Places
+mod Views
+mod Kept
+mod Steps
+mod Counting
+mod Seats
+mod AtSeats
