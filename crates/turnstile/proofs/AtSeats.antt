@@ -1,11 +1,11 @@
 -- The steps at a seat whose view is only known to have a shape.
-use Rattle.std.proofs.Common.{◌≡◌, ℕ, ◌+◌, ◌%◌, ◌^◌, ◌<◌, ◌≤◌, List, [], ◌∷◌, length, sym, refl, ap, ◌∙◌, subst, arith, Option, Some, None}
+use Rattle.std.proofs.Common.{◌≡◌, ℕ, ◌+◌, ◌%◌, ◌^◌, ◌<◌, List, [], ◌∷◌, length, sym, refl, ap, ◌∙◌, subst, arith, Option, Some}
 use mathlib.Core.Option.{none}
 use Rattle.atomic_table.specs.Table.{State, Allows, step, rest}
 use Rattle.turnstile.specs.declared.view.View.{View}
 use Rattle.turnstile.specs.declared.view.Stage.{Stage}
 use Rattle.turnstile.specs.declared.view.Stage.TheVariants.{Idle, Waits, Holds, Hears}
-use Rattle.turnstile.specs.Lists.{IsPrefix, Extends, times}
+use Rattle.turnstile.specs.Lists.{Extends}
 use Rattle.turnstile.specs.TurnRule.{TurnRule}
 use Rattle.turnstile.specs.Views.{IsHolding, base_of, ticket_of, with_stage, told, hearing, joined}
 use Rattle.turnstile.specs.Steps.{Mine, IsWaiting, HasTurn, Got, looked, counted, published, passed, heard}

@@ -1,7 +1,7 @@
 -- Beginnings of lists, and the places of a history.
-use Rattle.std.proofs.Common.{◌≡◌, ℕ, zero, suc, ◌+◌, ◌<◌, ◌≤◌, ◌≢◌, ◌⊎◌, List, [], ◌∷◌, ◌++◌, length, sym, refl, ap, ◌∙◌, inl, inr, ⊎_elim, arith, rules, append_assoc, length-append, append-nil, subst, if◌then◌else◌, nat_lt, Bool, true, false}
+use Rattle.std.proofs.Common.{◌≡◌, ◌≤◌, ◌⊎◌, List, [], ◌∷◌, ◌++◌, length, sym, refl, ap, ◌∙◌, ⊎_elim, arith, rules, append_assoc, length-append, append-nil, subst, if◌then◌else◌, nat_lt, true, false}
 use Rattle.std.proofs.lemmas.Bool.Decides.{nat_tests}
-use Rattle.turnstile.specs.Lists.{IsPrefix, Extends, longer, once}
+use Rattle.turnstile.specs.Lists.{IsPrefix, Extends, longer}
 
 module _ {E : Type 0} where
   nothing_more : (xs rest : List E) → length (xs ++ rest) ≤ length xs → xs ++ rest ≡ xs

@@ -1,5 +1,5 @@
 -- A list that has each place above the opening length and up to the length once, and no other, has as many places as the history grew by.
-use Rattle.std.proofs.Common.{◌≡◌, ℕ, zero, suc, ◌+◌, ◌-◌, ◌<◌, ◌≤◌, ◌≢◌, ◌⊎◌, ◌==◌, ◌&&◌, List, [], ◌∷◌, length, sym, refl, ap, ◌∙◌, subst, arith, if◌then◌else◌, nat_lt, nat_le, Bool, true, false}
+use Rattle.std.proofs.Common.{◌≡◌, ℕ, zero, suc, ◌+◌, ◌-◌, ◌<◌, ◌≤◌, ◌≢◌, ◌⊎◌, ◌==◌, List, [], ◌∷◌, length, refl, arith, if◌then◌else◌}
 use mathlib.Core.Logic.{dite}
 use native.Mathlib.Decide.{ℕ_discrete}
 use Rattle.std.proofs.lemmas.Bool.Decides.{nat_tests}
@@ -49,8 +49,8 @@ upto_one : (x n : ℕ) → x < n → upto (hit x) n ≡ 1
 upto_one x zero le = absurd (omega arith)
 upto_one x (suc n) le =
     dite (ℕ_discrete x n)
-      (λ e. sum_is _ _ 0 1 (upto_none x n (omega arith)) (hits x n e))
-      (λ e. sum_is _ _ 1 0 (upto_one x n (omega arith)) (misses x n e))
+    (λ e. sum_is _ _ 0 1 (upto_none x n (omega arith)) (hits x n e))
+    (λ e. sum_is _ _ 1 0 (upto_one x n (omega arith)) (misses x n e))
 
 some_times : (x n : ℕ) → 0 < hit x x + n
 some_times x n = rw (hits x x refl) (omega arith)

@@ -1,18 +1,16 @@
 -- The rule of a turnstile after a change of one seat, and what the rule says of a seat.
-use Rattle.std.proofs.Common.{◌≡◌, ℕ, zero, suc, ◌+◌, ◌%◌, ◌^◌, ◌<◌, ◌≤◌, ◌≢◌, ◌⊎◌, List, [], ◌∷◌, ◌++◌, length, set, sym, refl, ap, ◌∙◌, subst, inl, inr, ⊎_elim, arith, le_refl, Option, Some, slice_index}
+use Rattle.std.proofs.Common.{◌≡◌, ℕ, ◌+◌, ◌%◌, ◌^◌, ◌<◌, ◌≤◌, ◌≢◌, List, [], ◌∷◌, length, set, sym, ap, ◌∙◌, subst, ⊎_elim, arith, Option, Some, slice_index}
 use mathlib.Core.Option as maybe
 use mathlib.Core.Option.{none, some, some-injective, some-ne-none}
 use lib.ListN.{get_elem?}
 use Rattle.atomic_table.specs.Table.{State}
-use Rattle.atomic_table.proofs.Lists.{one_turn}
 use Rattle.turnstile.specs.declared.view.View.{View}
-use Rattle.turnstile.specs.declared.view.Stage.{Stage}
-use Rattle.turnstile.specs.declared.view.Stage.TheVariants.{Idle, Waits, Holds, Hears}
-use Rattle.turnstile.specs.Lists.{total, times, once, IsPrefix}
-use Rattle.turnstile.specs.TurnRule.{FitsStage, Fits, Apart, Longest, Holder, Slot, TurnRule}
+use Rattle.turnstile.specs.declared.view.Stage.TheVariants.{Waits}
+use Rattle.turnstile.specs.Lists.{times, once}
+use Rattle.turnstile.specs.TurnRule.{FitsStage, Fits, Longest, Slot, TurnRule}
 use Rattle.turnstile.specs.Views.{tickets, HasTicket, IsHolding}
 use Rattle.turnstile.proofs.Totals.{total_set, total_le}
-use Rattle.turnstile.proofs.Views.{tickets_shared, numbered, holder_ticket, each_set, apart_set}
+use Rattle.turnstile.proofs.Views.{tickets_shared, holder_ticket, each_set, apart_set}
 
 module _ {T E : Type 0} (history : T → List E) {seats opening : ℕ} (s : State (Option T) (View E)) (h : TurnRule history seats opening s) where
   -- the three words
@@ -60,7 +58,7 @@ module _ {T E : Type 0} (history : T → List E) {seats opening : ℕ} (s : Stat
     each = each_set (Fits now next log (homes ≡ none ∷ [])) s.views id w here others;
     apart = apart_set s.views id w h.apart alone;
     longest = longest;
-    slot = slot
+    slot = slot;
   }
 
   -- where a seat waits, a ticket is served that is out
@@ -75,15 +73,15 @@ module _ {T E : Type 0} (history : T → List E) {seats opening : ℕ} (s : Stat
   pub at_home : (id : ℕ) (v : View E) (k : ℕ) → get_elem? s.views id ≡ some v → v.stage ≡ Waits k → h.now % 2 ^ 64 ≡ k → (y : T) × (s.homes ≡ some (Some y) ∷ []) × (history y ≡ h.log)
   at_home id v k at waits found =
       ⊎_elim
-        (λ home. home)
-        (λ out.
-          let l = out.1 in
-          let held = holder_ticket h.now h.next h.log (s.homes ≡ none ∷ []) l.1.stage (h.each l.0 l.1 l.2).stage l.3 in
-          let mine : HasTicket (h.now % 2 ^ 64) v.stage = subst (HasTicket (h.now % 2 ^ 64)) (sym waits) (sym found) in
-          let one = h.apart l.0 id l.1 v (h.now % 2 ^ 64) l.2 at held mine in
-          let same : l.1 ≡ v = some-injective l.1 v (sym l.2 ∙ ap (get_elem? s.views) one ∙ at) in
-          absurd (subst IsHolding (ap (λ (u : View E). u.stage) same ∙ waits) l.3))
-        h.slot
+      (λ home. home)
+      (λ out.
+      let l = out.1 in
+      let held = holder_ticket h.now h.next h.log (s.homes ≡ none ∷ []) l.1.stage (h.each l.0 l.1 l.2).stage l.3 in
+      let mine : HasTicket (h.now % 2 ^ 64) v.stage = subst (HasTicket (h.now % 2 ^ 64)) (sym waits) (sym found) in
+      let one = h.apart l.0 id l.1 v (h.now % 2 ^ 64) l.2 at held mine in
+      let same : l.1 ≡ v = some-injective l.1 v (sym l.2 ∙ ap (get_elem? s.views) one ∙ at) in
+      absurd (subst IsHolding (ap (λ (u : View E). u.stage) same ∙ waits) l.3))
+      h.slot
 
   -- no other seat has the ticket of this one
   pub no_other : (id : ℕ) (v : View E) (t : ℕ) → get_elem? s.views id ≡ some v → HasTicket t v.stage → (j : ℕ) (u : View E) → j ≢ id → get_elem? s.views j ≡ some u → ¬ HasTicket t u.stage

@@ -1,5 +1,5 @@
 -- The places of the entries that were added, each once.
-use Rattle.std.proofs.Common.{◌≡◌, ℕ, zero, suc, ◌+◌, ◌-◌, ◌<◌, ◌≤◌, ◌⊎◌, ◌==◌, ◌&&◌, List, [], ◌∷◌, ◌++◌, length, sym, refl, ap, ◌∙◌, subst, inl, inr, ⊎_elim, arith, length-append, if◌then◌else◌, nat_lt, nat_le, Bool, true, false}
+use Rattle.std.proofs.Common.{◌≡◌, ℕ, ◌+◌, ◌≤◌, ◌==◌, List, [], ◌∷◌, ◌++◌, length, sym, ap, ◌∙◌, subst, ⊎_elim, arith, length-append, if◌then◌else◌, true}
 use Rattle.std.proofs.lemmas.Bool.Decides.{nat_tests}
 use Rattle.turnstile.specs.Lists.{times, once, Extends}
 use Rattle.turnstile.specs.Views.{extended}
@@ -31,12 +31,12 @@ one_place all mine added before after e d = omega arith
 pub place_more : {E : Type 0} (opening p : ℕ) (mine : List ℕ) (base log : List E) → opening ≤ length base → Extends base log → times p (extended mine base log) + once opening (length base) p ≡ times p mine + once opening (length log) p
 place_more {E} opening p mine base log le ext =
     ⊎_elim
-      (λ e.
-        let n : length log ≡ length base = ap length e in
-        rw (extended_same mine base log n) (ap (λ k. times p mine + once opening k p) (sym n)))
-      (λ e.
-        let n : length log ≡ length base + 1 = ap length e.1 ∙ length-append base (e.0 ∷ []) in
-        let added : ℕ = if length log == p then 1 else 0 in
-        let o : once opening (length base) p + added ≡ once opening (length log) p = subst (λ k. once opening (length base) p + (if k == p then 1 else 0) ≡ once opening k p) (sym n) (once_more opening (length base) p le) in
-        rw (extended_more mine base log n) (one_place (times p (mine ++ length log ∷ [])) (times p mine) added (once opening (length base) p) (once opening (length log) p) (times_append p mine (length log ∷ [])) o))
-      ext
+    (λ e.
+    let n : length log ≡ length base = ap length e in
+    rw (extended_same mine base log n) (ap (λ k. times p mine + once opening k p) (sym n)))
+    (λ e.
+    let n : length log ≡ length base + 1 = ap length e.1 ∙ length-append base (e.0 ∷ []) in
+    let added : ℕ = if length log == p then 1 else 0 in
+    let o : once opening (length base) p + added ≡ once opening (length log) p = subst (λ k. once opening (length base) p + (if k == p then 1 else 0) ≡ once opening k p) (sym n) (once_more opening (length base) p le) in
+    rw (extended_more mine base log n) (one_place (times p (mine ++ length log ∷ [])) (times p mine) added (once opening (length base) p) (once opening (length log) p) (times_append p mine (length log ∷ [])) o))
+    ext

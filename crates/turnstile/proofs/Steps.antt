@@ -1,18 +1,17 @@
 -- Each step on a word keeps the rule, and tells what its play says.
-use Rattle.std.proofs.Common.{◌≡◌, ℕ, zero, suc, ◌+◌, ◌%◌, ◌^◌, ◌<◌, ◌≤◌, ◌≢◌, ◌⊎◌, ◌==◌, List, [], ◌∷◌, ◌++◌, length, set, sym, refl, ap, ◌∙◌, subst, subst₂, inl, inr, ⊎_elim, arith, le_refl, Option, Some, slice_index, Bool, true, false, MatchBool}
+use Rattle.std.proofs.Common.{◌≡◌, ℕ, ◌+◌, ◌%◌, ◌^◌, ◌<◌, ◌≤◌, ◌==◌, List, [], ◌∷◌, length, set, sym, refl, ap, ◌∙◌, subst, subst₂, inl, inr, ⊎_elim, arith, Option, Some, slice_index, true, false, MatchBool}
 use mathlib.Core.Option as maybe
 use mathlib.Core.Option.{none, some}
 use lib.ListN.{get_elem?}
 use Rattle.atomic_table.specs.Table.{State, Act, keeps, takes, gives, step, Valid, stepped, carried_after, Allows}
 use Rattle.atomic_table.proofs.Lists.{one_turn, set_again}
 use Rattle.turnstile.specs.declared.view.View.{View}
-use Rattle.turnstile.specs.declared.view.Stage.{Stage}
 use Rattle.turnstile.specs.declared.view.Stage.TheVariants.{Idle, Waits, Holds, Hears}
-use Rattle.turnstile.specs.Lists.{total, times, once, IsPrefix, Extends}
-use Rattle.turnstile.specs.TurnRule.{FitsStage, Fits, Longest, Slot, TurnRule}
-use Rattle.turnstile.specs.Views.{tickets, HasTicket, IsHolding, with_stage, extended, told}
+use Rattle.turnstile.specs.Lists.{times, IsPrefix, Extends}
+use Rattle.turnstile.specs.TurnRule.{FitsStage, TurnRule}
+use Rattle.turnstile.specs.Views.{tickets, IsHolding, with_stage, told}
 use Rattle.turnstile.specs.Steps.{Mine, Got, looked, took, counted, published, passed, heard}
-use Rattle.turnstile.proofs.Totals.{total_at, times_append}
+use Rattle.turnstile.proofs.Totals.{total_at}
 use Rattle.turnstile.proofs.Beginnings.{prefix_self, prefix_trans, prefix_shorter, extends_prefix}
 use Rattle.turnstile.proofs.Places.{same_number, once_at_most, place_more}
 use Rattle.turnstile.proofs.Views.{numbered, later_stage, behind, longest_set, longest_here, holder_set, holder_here}
@@ -35,28 +34,27 @@ module _ {T E : Type 0} (history : T → List E) (seats opening : ℕ) where
       let space = room history s h in
       let line = h.line in
       let none_out : tickets m.0.stage ≡ 0 = ap tickets idle in
-      let out : Type 0 = s.homes ≡ none ∷ [] in
-      (
+      let out : Type 0 = s.homes ≡ none ∷ [] in (
         w,
         keeps,
         tt,
         kept_set history s h (set s.words 0 ((n + 1) % 2 ^ 64)) s.homes id m.0 w h.now (h.next + 1) h.log at
-          (let x : ((h.next % 2 ^ 64) + 1) % 2 ^ 64 ≡ (h.next + 1) % 2 ^ 64 = omega arith in rw h.words (ap (λ z. z ∷ h.now % 2 ^ 64 ∷ length h.log % 2 ^ 64 ∷ []) x))
-          (omega arith)
-          refl
-          h.later
-          (λ p. refl)
-          (let f = h.each id m.0 at in record { stage = (h.next, sym (word_0 history s h), omega arith, omega arith); seen = f.seen; spent = λ z. absurd (omega arith) })
-          (λ j u _ a. let f = h.each j u a in record { stage = later_stage h.now h.next (h.next + 1) h.log out out u.stage (omega arith) (λ o. o) f.stage; seen = f.seen; spent = f.spent })
-          (λ t j u mine other a theirs.
+            (let x : ((h.next % 2 ^ 64) + 1) % 2 ^ 64 ≡ (h.next + 1) % 2 ^ 64 = omega arith in rw h.words (ap (λ z. z ∷ h.now % 2 ^ 64 ∷ length h.log % 2 ^ 64 ∷ []) x))
+            (omega arith)
+            refl
+            h.later
+            (λ p. refl)
+            (let f = h.each id m.0 at in record { stage = (h.next, sym (word_0 history s h), omega arith, omega arith); seen = f.seen; spent = λ z. absurd (omega arith) })
+            (λ j u _ a. let f = h.each j u a in record { stage = later_stage h.now h.next (h.next + 1) h.log out out u.stage (omega arith) (λ o. o) f.stage; seen = f.seen; spent = f.spent })
+            (λ t j u mine other a theirs.
             let k = numbered h.now h.next h.log out u.stage t (h.each j u a).stage theirs in
             let low : h.now ≤ k.0 = k.2 in
             let high : k.0 < h.next = k.3 in
             let one = one_turn k.0 h.next (2 ^ 64) (omega arith) (omega arith) (k.1 ∙ (sym mine ∙ word_0 history s h)) in
             absurd (omega arith))
-          (longest_set h.log s.views id m.0 w at (λ a b. (a, b)) h.longest)
-          (⊎_elim (λ x. inl x) (λ x. inr (x.0, holder_set s.views id m.0 w at (λ hold. absurd (subst IsHolding idle hold)) x.1)) h.slot),
-        refl
+            (longest_set h.log s.views id m.0 w at (λ a b. (a, b)) h.longest)
+            (⊎_elim (λ x. inl x) (λ x. inr (x.0, holder_set s.views id m.0 w at (λ hold. absurd (subst IsHolding idle hold)) x.1)) h.slot),
+        refl,
       )
 
   -- a step that changes nothing
@@ -71,7 +69,7 @@ module _ {T E : Type 0} (history : T → List E) (seats opening : ℕ) where
         keeps,
         tt,
         still s 1 id m.0 [] (rw h.words refl) at h,
-        subst (λ b. MatchBool b (Got history m m) (m ≡ m)) (sym miss) refl
+        subst (λ b. MatchBool b (Got history m m) (m ≡ m)) (sym miss) refl,
       )
 
   -- looking at the own ticket
@@ -91,17 +89,17 @@ module _ {T E : Type 0} (history : T → List E) (seats opening : ℕ) where
         takes 0 (Some y),
         ap (λ (hs : List (maybe.Option (Option T))). get_elem? hs 0) home.1,
         kept_set history s h (set s.words 1 (slice_index s.words 1)) (set s.homes 0 none) id m.0 w h.now h.next h.log at
-          (rw h.words refl)
-          (omega arith)
-          refl
-          h.later
-          (λ p. refl)
-          (record { stage = (found, served history s h id m.0 k at refl, home.2, gone); seen = f.seen; spent = λ z. absurd (omega arith) })
-          (λ j u other a. let g = h.each j u a in record { stage = behind h.now h.now h.next h.log h.log (s.homes ≡ none ∷ []) out u.stage (omega arith) (prefix_self h.log) (none_else (h.now % 2 ^ 64) at (sym found) j u other a) g.stage; seen = g.seen; spent = g.spent })
-          (λ t j u mine other a. none_else t at mine j u other a)
-          (longest_set h.log s.views id m.0 w at (λ a b. (a, b)) h.longest)
-          (inr (gone, holder_here s.views id m.0 w at tt)),
-        subst (λ b. MatchBool b (Got history m m') (m' ≡ m)) (sym hit) (y, refl, subst (IsPrefix v.seen) (sym home.2) f.seen)
+            (rw h.words refl)
+            (omega arith)
+            refl
+            h.later
+            (λ p. refl)
+            (record { stage = (found, served history s h id m.0 k at refl, home.2, gone); seen = f.seen; spent = λ z. absurd (omega arith) })
+            (λ j u other a. let g = h.each j u a in record { stage = behind h.now h.now h.next h.log h.log (s.homes ≡ none ∷ []) out u.stage (omega arith) (prefix_self h.log) (none_else (h.now % 2 ^ 64) at (sym found) j u other a) g.stage; seen = g.seen; spent = g.spent })
+            (λ t j u mine other a. none_else t at mine j u other a)
+            (longest_set h.log s.views id m.0 w at (λ a b. (a, b)) h.longest)
+            (inr (gone, holder_here s.views id m.0 w at tt)),
+        subst (λ b. MatchBool b (Got history m m') (m' ≡ m)) (sym hit) (y, refl, subst (IsPrefix v.seen) (sym home.2) f.seen),
       )
 
   -- looking at the ticket that is served
@@ -109,7 +107,7 @@ module _ {T E : Type 0} (history : T → List E) (seats opening : ℕ) where
   looks slots id v k some_share s h _ at _ =
       let Goal : Type 0 = Kept s id (with_stage v (Waits k), []) 1 (slice_index s.words 1) (looked history (step slots 1 0 0 none) (with_stage v (Waits k), []) (slice_index s.words 1)) in
       elim (slice_index s.words 1 == k) as (λ b. (slice_index s.words 1 == k) ≡ b → Goal) [
-        true ↦ has_turn slots id v k some_share s h at
+        | true ↦ has_turn slots id v k some_share s h at
         | false ↦ waits_on slots id v k s h at
       ] refl
 
@@ -123,7 +121,7 @@ module _ {T E : Type 0} (history : T → List E) (seats opening : ℕ) where
         keeps,
         tt,
         still s 2 id m.0 c (rw h.words refl) at h,
-        (word_2 history s h ∙ ap (λ (l : List E). length l % 2 ^ 64) (sym is), refl)
+        (word_2 history s h ∙ ap (λ (l : List E). length l % 2 ^ 64) (sym is), refl),
       )
 
   -- publishing
@@ -144,17 +142,17 @@ module _ {T E : Type 0} (history : T → List E) (seats opening : ℕ) where
         keeps,
         tt,
         kept_set history s h (set s.words 2 ((n + more) % 2 ^ 64)) s.homes id m.0 w h.now h.next log at
-          (let x : ((length h.log % 2 ^ 64) + more) % 2 ^ 64 ≡ length log % 2 ^ 64 = omega arith in rw h.words (ap (λ z. h.next % 2 ^ 64 ∷ h.now % 2 ^ 64 ∷ z ∷ []) x))
-          (omega arith)
-          refl
-          (omega arith)
-          (λ p. rw (← is) (place_more opening p v.mine base log (subst (λ (l : List E). opening ≤ length l) (sym is) h.later) ext))
-          (record { stage = (st.0, st.1, refl, st.3); seen = prefix_self log; spent = λ z. absurd (omega arith) })
-          (λ j u other a. let g = h.each j u a in record { stage = behind h.now h.now h.next h.log log out out u.stage (omega arith) begins (none_else (h.now % 2 ^ 64) at (sym st.0) j u other a) g.stage; seen = prefix_trans u.seen h.log log g.seen begins; spent = g.spent })
-          (λ t j u mine other a. none_else t at mine j u other a)
-          (longest_here log s.views id m.0 w at some_share refl)
-          (inr (st.3, holder_here s.views id m.0 w at tt)),
-        refl
+            (let x : ((length h.log % 2 ^ 64) + more) % 2 ^ 64 ≡ length log % 2 ^ 64 = omega arith in rw h.words (ap (λ z. h.next % 2 ^ 64 ∷ h.now % 2 ^ 64 ∷ z ∷ []) x))
+            (omega arith)
+            refl
+            (omega arith)
+            (λ p. rw (← is) (place_more opening p v.mine base log (subst (λ (l : List E). opening ≤ length l) (sym is) h.later) ext))
+            (record { stage = (st.0, st.1, refl, st.3); seen = prefix_self log; spent = λ z. absurd (omega arith) })
+            (λ j u other a. let g = h.each j u a in record { stage = behind h.now h.now h.next h.log log out out u.stage (omega arith) begins (none_else (h.now % 2 ^ 64) at (sym st.0) j u other a) g.stage; seen = prefix_trans u.seen h.log log g.seen begins; spent = g.spent })
+            (λ t j u mine other a. none_else t at mine j u other a)
+            (longest_here log s.views id m.0 w at some_share refl)
+            (inr (st.3, holder_here s.views id m.0 w at tt)),
+        refl,
       )
 
   -- passing the turn on, with the value at home again
@@ -172,17 +170,17 @@ module _ {T E : Type 0} (history : T → List E) (seats opening : ℕ) where
         gives,
         tt,
         kept_set history s h (set s.words 1 ((n + 1) % 2 ^ 64)) homes id m.0 w (h.now + 1) h.next h.log at
-          (let x : ((h.now % 2 ^ 64) + 1) % 2 ^ 64 ≡ (h.now + 1) % 2 ^ 64 = omega arith in rw h.words (ap (λ z. h.next % 2 ^ 64 ∷ z ∷ length h.log % 2 ^ 64 ∷ []) x))
-          (omega arith)
-          refl
-          h.later
-          (λ p. refl)
-          (record { stage = tt; seen = f.seen; spent = λ z. absurd (omega arith) })
-          (λ j u other a. let g = h.each j u a in record { stage = behind h.now (h.now + 1) h.next h.log h.log (s.homes ≡ none ∷ []) (homes ≡ none ∷ []) u.stage (omega arith) (prefix_self h.log) (none_else (h.now % 2 ^ 64) at (sym st.0) j u other a) g.stage; seen = g.seen; spent = g.spent })
-          (λ t j u mine other a. absurd mine)
-          (longest_set h.log s.views id m.0 w at (λ a b. (a, b)) h.longest)
-          (inl (y, home, st.2)),
-        refl
+            (let x : ((h.now % 2 ^ 64) + 1) % 2 ^ 64 ≡ (h.now + 1) % 2 ^ 64 = omega arith in rw h.words (ap (λ z. h.next % 2 ^ 64 ∷ z ∷ length h.log % 2 ^ 64 ∷ []) x))
+            (omega arith)
+            refl
+            h.later
+            (λ p. refl)
+            (record { stage = tt; seen = f.seen; spent = λ z. absurd (omega arith) })
+            (λ j u other a. let g = h.each j u a in record { stage = behind h.now (h.now + 1) h.next h.log h.log (s.homes ≡ none ∷ []) (homes ≡ none ∷ []) u.stage (omega arith) (prefix_self h.log) (none_else (h.now % 2 ^ 64) at (sym st.0) j u other a) g.stage; seen = g.seen; spent = g.spent })
+            (λ t j u mine other a. absurd mine)
+            (longest_set h.log s.views id m.0 w at (λ a b. (a, b)) h.longest)
+            (inl (y, home, st.2)),
+        refl,
       )
 
   -- comparing what two joined seats had seen
@@ -196,23 +194,23 @@ module _ {T E : Type 0} (history : T → List E) (seats opening : ℕ) where
         keeps,
         tt,
         kept_set history s h (set s.words 0 (slice_index s.words 0)) s.homes id m.0 w h.now h.next h.log at
-          (rw h.words refl)
-          (omega arith)
-          refl
-          h.later
-          (λ p. refl)
-          (record { stage = tt; seen = f.seen; spent = λ z. absurd (omega arith) })
-          (λ j u _ x. h.each j u x)
-          (λ t j u mine other x. absurd mine)
-          (longest_set h.log s.views id m.0 w at (λ x y. (x, y)) h.longest)
-          (⊎_elim (λ x. inl x) (λ x. inr (x.0, holder_set s.views id m.0 w at (λ hold. absurd hold) x.1)) h.slot),
+            (rw h.words refl)
+            (omega arith)
+            refl
+            h.later
+            (λ p. refl)
+            (record { stage = tt; seen = f.seen; spent = λ z. absurd (omega arith) })
+            (λ j u _ x. h.each j u x)
+            (λ t j u mine other x. absurd mine)
+            (longest_set h.log s.views id m.0 w at (λ x y. (x, y)) h.longest)
+            (⊎_elim (λ x. inl x) (λ x. inr (x.0, holder_set s.views id m.0 w at (λ hold. absurd hold) x.1)) h.slot),
         (
           refl,
           ((λ le. prefix_shorter a v.seen h.log f.stage.0 f.seen le), (λ le. prefix_shorter b v.seen h.log f.stage.1 f.seen le)),
           λ p.
-            let t = total_at (λ (u : View E). times p u.mine) s.views id m.0 at in
-            let e = h.places p in
-            let l = once_at_most opening (length h.log) p in
-            omega arith
-        )
+              let t = total_at (λ (u : View E). times p u.mine) s.views id m.0 at in
+              let e = h.places p in
+              let l = once_at_most opening (length h.log) p in
+              omega arith,
+        ),
       )

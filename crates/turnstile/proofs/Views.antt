@@ -1,15 +1,15 @@
 -- The views of all seats, after a change of one.
-use Rattle.std.proofs.Common.{◌≡◌, ℕ, zero, suc, ◌+◌, ◌%◌, ◌^◌, ◌<◌, ◌≤◌, ◌≢◌, ◌⊎◌, List, [], ◌∷◌, ◌++◌, length, set, sym, refl, ap, ◌∙◌, subst, inl, inr, ⊎_elim, arith, le_refl}
+use Rattle.std.proofs.Common.{◌≡◌, ℕ, zero, suc, ◌+◌, ◌%◌, ◌^◌, ◌<◌, ◌≤◌, ◌≢◌, List, [], ◌∷◌, set, sym, refl, ap, ◌∙◌, subst, ⊎_elim, arith, le_refl}
 use mathlib.Core.Option.{some, some-injective, some-ne-none}
 use mathlib.Core.Logic.{dite}
 use native.Mathlib.Decide.{ℕ_discrete}
 use lib.ListN.{get_elem?}
-use Rattle.atomic_table.proofs.Lists.{at_set, at_snoc, at_longer, at_last, set_else}
+use Rattle.atomic_table.proofs.Lists.{at_set, set_else}
 use Rattle.turnstile.specs.declared.view.View.{View}
 use Rattle.turnstile.specs.declared.view.Stage.{Stage}
 use Rattle.turnstile.specs.declared.view.Stage.TheVariants.{Idle, Waits, Holds, Hears}
 use Rattle.turnstile.specs.Lists.{IsPrefix}
-use Rattle.turnstile.specs.TurnRule.{FitsStage, Fits, Apart, Longest, Holder}
+use Rattle.turnstile.specs.TurnRule.{FitsStage, Apart, Longest, Holder}
 use Rattle.turnstile.specs.Views.{tickets, HasTicket, IsHolding}
 use Rattle.turnstile.proofs.Beginnings.{prefix_trans}
 
@@ -67,27 +67,27 @@ module _ {E : Type 0} where
   pub apart_set : (views : List (View E)) (i : ℕ) (w : View E) → Apart views → ((t j : ℕ) (u : View E) → HasTicket t w.stage → j ≢ i → get_elem? views j ≡ some u → ¬ HasTicket t u.stage) → Apart (set views i w)
   apart_set views i w apart alone j k u x t e d p q =
       ⊎_elim
-        (λ a.
-          ⊎_elim
-            (λ b. a.0 ∙ sym b.0)
-            (λ b. absurd (alone t k x (subst (λ (v : View E). HasTicket t v.stage) (sym a.1) p) b.0 b.1 q))
-            (at_set views i k w x d))
-        (λ a.
-          ⊎_elim
-            (λ b. absurd (alone t j u (subst (λ (v : View E). HasTicket t v.stage) (sym b.1) q) a.0 a.1 p))
-            (λ b. apart j k u x t a.1 b.1 p q)
-            (at_set views i k w x d))
-        (at_set views i j w u e)
+      (λ a.
+      ⊎_elim
+      (λ b. a.0 ∙ sym b.0)
+      (λ b. absurd (alone t k x (subst (λ (v : View E). HasTicket t v.stage) (sym a.1) p) b.0 b.1 q))
+      (at_set views i k w x d))
+      (λ a.
+      ⊎_elim
+      (λ b. absurd (alone t j u (subst (λ (v : View E). HasTicket t v.stage) (sym b.1) q) a.0 a.1 p))
+      (λ b. apart j k u x t a.1 b.1 p q)
+      (at_set views i k w x d))
+      (at_set views i j w u e)
 
   -- some seat has seen the whole history, also after a change of one that sees no less
   pub longest_set : (log : List E) (views : List (View E)) (i : ℕ) (v w : View E) → get_elem? views i ≡ some v → (0 < v.share → v.seen ≡ log → (0 < w.share) × (w.seen ≡ log)) → Longest log views → Longest log (set views i w)
   longest_set log views i v w at keeps l =
       dite (ℕ_discrete l.0 i)
-        (λ e.
-          let same : l.1 ≡ v = some-injective l.1 v (sym l.2 ∙ ap (get_elem? views) e ∙ at) in
-          let k = keeps (subst (λ (u : View E). 0 < u.share) same l.3) (ap (λ (u : View E). u.seen) (sym same) ∙ l.4) in
-          (i, w, set_at views i v w at, k.0, k.1))
-        (λ n. (l.0, l.1, set_else views i l.0 w n ∙ l.2, l.3, l.4))
+      (λ e.
+      let same : l.1 ≡ v = some-injective l.1 v (sym l.2 ∙ ap (get_elem? views) e ∙ at) in
+      let k = keeps (subst (λ (u : View E). 0 < u.share) same l.3) (ap (λ (u : View E). u.seen) (sym same) ∙ l.4) in
+      (i, w, set_at views i v w at, k.0, k.1))
+      (λ n. (l.0, l.1, set_else views i l.0 w n ∙ l.2, l.3, l.4))
 
   pub longest_here : (log : List E) (views : List (View E)) (i : ℕ) (v w : View E) → get_elem? views i ≡ some v → 0 < w.share → w.seen ≡ log → Longest log (set views i w)
   longest_here log views i v w at some_share e = (i, w, set_at views i v w at, some_share, e)
@@ -95,10 +95,10 @@ module _ {E : Type 0} where
   pub holder_set : (views : List (View E)) (i : ℕ) (v w : View E) → get_elem? views i ≡ some v → (IsHolding v.stage → IsHolding w.stage) → Holder views → Holder (set views i w)
   holder_set views i v w at keeps l =
       dite (ℕ_discrete l.0 i)
-        (λ e.
-          let same : l.1 ≡ v = some-injective l.1 v (sym l.2 ∙ ap (get_elem? views) e ∙ at) in
-          (i, w, set_at views i v w at, keeps (subst (λ (u : View E). IsHolding u.stage) same l.3)))
-        (λ n. (l.0, l.1, set_else views i l.0 w n ∙ l.2, l.3))
+      (λ e.
+      let same : l.1 ≡ v = some-injective l.1 v (sym l.2 ∙ ap (get_elem? views) e ∙ at) in
+      (i, w, set_at views i v w at, keeps (subst (λ (u : View E). IsHolding u.stage) same l.3)))
+      (λ n. (l.0, l.1, set_else views i l.0 w n ∙ l.2, l.3))
 
   pub holder_here : (views : List (View E)) (i : ℕ) (v w : View E) → get_elem? views i ≡ some v → IsHolding w.stage → Holder (set views i w)
   holder_here views i v w at holds = (i, w, set_at views i v w at, holds)

@@ -15,6 +15,8 @@ pub use turnstile::{NoMemory, Turnstile};
 mod chronicle;
 mod plays;
 mod rule;
+#[cfg(test)]
+mod tests;
 mod turn;
 mod turnstile;
 pub mod view;
