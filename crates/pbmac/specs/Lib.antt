@@ -1,0 +1,3 @@
+pub mod Algorithm
+pub mod Mac
+pub mod Params

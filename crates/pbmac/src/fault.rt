@@ -1,0 +1,29 @@
+use std::error::Error;
+use std::fmt;
+
+use asn_fields::BadForm;
+use der_base::DerFault;
+
+/// An algorithm is not PBMAC1 with parameters that are accepted.
+#[derive(Clone, Copy, Debug, PartialEq, Eq)]
+pub struct BadAlg;
+
+impl fmt::Display for BadAlg {
+    fn fmt<W: fmt::Write>(&self, f: &mut fmt::Formatter<W>) -> fmt::Result {
+        f.write_str("the algorithm is not PBMAC1 with parameters that are accepted")
+    }
+}
+
+impl Error for BadAlg {}
+
+impl From<BadForm> for BadAlg {
+    fn from(_fault: BadForm) -> Self {
+        BadAlg
+    }
+}
+
+impl From<DerFault> for BadAlg {
+    fn from(_fault: DerFault) -> Self {
+        BadAlg
+    }
+}
