@@ -80,13 +80,14 @@ kdf_inside content = do
   prf ← sole_hmac_at rest
   Some (record { salt = salt.0; rounds = count.0 })
 
--- the parameters of an algorithm, inside their SEQUENCE
-abbrev pub inside_params : {X : Type 0} → (List ℕ → Option X) → List ℕ → Algorithm → Option X
-inside_params inner oid a = if bytes_eq a.oid oid then inside a.params else None
-  where
-  inside : Option (List ℕ) → Option X
-  inside None = None
-  inside (Some whole) = sole_at 0x30 whole >>= λ s. inner s.content
+-- what inner reads inside the SEQUENCE that parameters are
+abbrev pub inside_whole : (List ℕ → Option MacParams) → Option (List ℕ) → Option MacParams
+inside_whole inner None = None
+inside_whole inner (Some whole) = sole_at 0x30 whole >>= λ s. inner s.content
+
+-- the parameters of an algorithm with this identifier
+abbrev pub inside_params : (List ℕ → Option MacParams) → List ℕ → Algorithm → Option MacParams
+inside_params inner oid a = if bytes_eq a.oid oid then inside_whole inner a.params else None
 
 -- PBMAC1-params: keyDerivationFunc and messageAuthScheme
 unfoldable pub scheme_inside : List ℕ → Option MacParams

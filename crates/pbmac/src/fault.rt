@@ -1,8 +1,7 @@
-use std::error::Error;
-use std::fmt;
-
 use asn_fields::BadForm;
 use der_base::DerFault;
+use std::error::Error;
+use std::fmt;
 
 /// An algorithm is not PBMAC1 with parameters that are accepted.
 #[derive(Clone, Copy, Debug, PartialEq, Eq)]

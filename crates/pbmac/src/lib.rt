@@ -11,3 +11,6 @@ pub use asn_fields::BadForm;
 pub use fault::BadAlg;
 pub use mac::{mac_ok, mac_ok_over, make_mac, make_mac_over};
 pub use params::{MacParams, read_params};
+
+#[cfg(test)]
+mod tests;

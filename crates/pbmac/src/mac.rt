@@ -1,9 +1,8 @@
 ghost use Rattle.std.specs.Prelude.{◌≡◌, ◌≤◌, ◌++◌, ◌↔◌, IsTrue};
 ghost use Rattle.pbmac.specs.Mac.{mac_of, MacOk};
 
-use hash_kit::{hmac256, pbkdf2_256};
-
 use crate::params::MacParams;
+use hash_kit::{hmac256, pbkdf2_256};
 
 /// The MAC of `first` followed by `second`, 32 octets (RFC 8018, 7.1.1).
 pub fn make_mac_over(secret: &[u8], p: &MacParams, first: &[u8], second: &[u8]) -> [u8; 32]

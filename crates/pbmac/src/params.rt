@@ -5,12 +5,11 @@ ghost use Rattle.asn_fields.specs.Fields.{Gives};
 ghost use Rattle.pbmac.specs.Algorithm.{algorithm_of};
 ghost use Rattle.pbmac.specs.Params.{is_blank, is_hmac_sha256, rounds_of, key_length_at, salt_at, count_at, sole_hmac_at, kdf_inside, inside_params, scheme_inside, params_at, pbkdf2_oid, pbmac1, accepted};
 
+use crate::algorithm_id::{AlgorithmId, read_alg_inside};
+use crate::fault::BadAlg;
 use asn_fields::{field, optional, sole};
 use cmp_ports::Short;
 use der_base::integer;
-
-use crate::algorithm_id::{AlgorithmId, read_alg_inside};
-use crate::fault::BadAlg;
 
 /// What PBKDF2 takes besides the secret: the salt, of 8 to 64 octets, and how many rounds, 1 to 200,000.
 #[derive(Clone, Copy, Debug)]
@@ -57,20 +56,28 @@ fn is_hmac_sha256(a: &AlgorithmId<'_>) -> bool
 
 /// A count of rounds from 1 to 200,000.
 fn accepted(rounds: u32) -> Result<u32, BadAlg>
-    ensures { Gives (λ n. n) result (accepted rounds) }
+    ensures value { Gives (λ n. n) result (accepted rounds) }
+    ensures bound { IfOk result (λ n. 1 ≤ n) }
 {
-    if rounds >= 1 && rounds <= MAX_ROUNDS { Ok(rounds) } else { Err(BadAlg) }
+    if rounds >= 1 && rounds <= MAX_ROUNDS {
+        Ok(rounds)
+    } else {
+        Err(BadAlg)
+    }
 }
 
 /// The count of rounds that the content of an INTEGER stands for.
 #[tactic(auto, unfolding(crate::specs::Params::rounds_of))]
 fn rounds_of(content: &[u8]) -> Result<u32, BadAlg>
-    ensures { Gives (λ n. n) result (rounds_of content.now) }
+    ensures value { Gives (λ n. n) result (rounds_of content.now) }
+    ensures bound { IfOk result (λ n. 1 ≤ n) }
 {
     match content {
         [a] if *a < 128 => accepted(u32::from(*a)),
         [a, b] if *a < 128 => accepted(u32::from(*a) * 256 + u32::from(*b)),
-        [a, b, c] if *a < 128 => accepted((u32::from(*a) * 256 + u32::from(*b)) * 256 + u32::from(*c)),
+        [a, b, c] if *a < 128 => accepted(
+            (u32::from(*a) * 256 + u32::from(*b)) * 256 + u32::from(*c),
+        ),
         _ => Err(BadAlg),
     }
 }
@@ -92,25 +99,25 @@ fn skip_key_length(bytes: &[u8]) -> Result<&[u8], BadAlg>
     }
 }
 
-/// Reads a salt, and returns what follows it.
+/// Reads a salt, and returns it and what follows it.
 #[tactic(auto, unfolding(crate::specs::Params::salt_at))]
-fn read_salt(bytes: &[u8]) -> Result<(Short, &[u8]), BadAlg>
-    ensures { Gives {Y = List ℕ × List ℕ} (λ r. (r.0, r.1.now)) result (salt_at bytes.now) }
+fn read_salt(bytes: &[u8]) -> Result<(&[u8], &[u8]), BadAlg>
+    ensures value { Gives {Y = List ℕ × List ℕ} (λ r. (r.0.now, r.1.now)) result (salt_at bytes.now) }
+    ensures bound { IfOk result (λ r. length r.0.now ≤ 64) }
 {
     let (element, rest) = field(0x04, bytes)?;
-    if element.content.len() < 8 {
+    let salt = element.content;
+    if salt.len() < 8 || salt.len() > 64 {
         return Err(BadAlg);
     }
-    match Short::of(element.content) {
-        Some(salt) => Ok((salt, rest)),
-        None => Err(BadAlg),
-    }
+    Ok((salt, rest))
 }
 
 /// Reads a count of rounds, and returns what follows it.
 #[tactic(auto, unfolding(crate::specs::Params::count_at))]
 fn read_count(bytes: &[u8]) -> Result<(u32, &[u8]), BadAlg>
-    ensures { Gives {Y = ℕ × List ℕ} (λ r. (r.0, r.1.now)) result (count_at bytes.now) }
+    ensures value { Gives {Y = ℕ × List ℕ} (λ r. (r.0, r.1.now)) result (count_at bytes.now) }
+    ensures bound { IfOk result (λ r. 1 ≤ r.0) }
 {
     let (element, rest) = field(0x02, bytes)?;
     let number = integer(&element)?;
@@ -125,25 +132,32 @@ fn read_sole_hmac(bytes: &[u8]) -> Result<(), BadAlg>
 {
     let element = sole(0x30, bytes)?;
     let algorithm = read_alg_inside(element.content)?;
-    if is_hmac_sha256(&algorithm) { Ok(()) } else { Err(BadAlg) }
+    if is_hmac_sha256(&algorithm) {
+        Ok(())
+    } else {
+        Err(BadAlg)
+    }
 }
 
 /// Reads the parameters of PBKDF2 inside their SEQUENCE.
 #[tactic(auto, unfolding(crate::specs::Params::kdf_inside))]
 fn read_kdf_inside(content: &[u8]) -> Result<MacParams, BadAlg>
-    ensures { Gives (λ p. p) result (kdf_inside content.now) }
+    ensures exact { Gives (λ p. p) result (kdf_inside content.now) }
+    ensures bound { IfOk result (λ p. 1 ≤ p.rounds) }
 {
     let (salt, rest) = read_salt(content)?;
     let (rounds, rest) = read_count(rest)?;
     let rest = skip_key_length(rest)?;
     read_sole_hmac(rest)?;
+    let salt = Short::of(salt).ok_or(BadAlg)?;
     Ok(MacParams { salt, rounds })
 }
 
 /// Reads the parameters of an algorithm that is PBKDF2.
 #[tactic(auto, unfolding(crate::specs::Params::pbkdf2_oid))]
 fn read_kdf(a: &AlgorithmId<'_>) -> Result<MacParams, BadAlg>
-    ensures { Gives (λ p. p) result (inside_params kdf_inside pbkdf2_oid (algorithm_of a.now)) }
+    ensures exact { Gives (λ p. p) result (inside_params kdf_inside pbkdf2_oid (algorithm_of a.now)) }
+    ensures bound { IfOk result (λ p. 1 ≤ p.rounds) }
 {
     if a.oid != PBKDF2 {
         return Err(BadAlg);
@@ -160,7 +174,8 @@ fn read_kdf(a: &AlgorithmId<'_>) -> Result<MacParams, BadAlg>
 /// Reads the parameters of PBMAC1 inside their SEQUENCE.
 #[tactic(auto, unfolding(crate::specs::Params::scheme_inside))]
 fn read_scheme_inside(content: &[u8]) -> Result<MacParams, BadAlg>
-    ensures { Gives (λ p. p) result (scheme_inside content.now) }
+    ensures exact { Gives (λ p. p) result (scheme_inside content.now) }
+    ensures bound { IfOk result (λ p. 1 ≤ p.rounds) }
 {
     let (element, rest) = field(0x30, content)?;
     let kdf = read_alg_inside(element.content)?;
@@ -173,6 +188,7 @@ fn read_scheme_inside(content: &[u8]) -> Result<MacParams, BadAlg>
 #[tactic(auto, unfolding(crate::specs::Params::params_at, crate::specs::Params::pbmac1))]
 pub fn read_params(alg: &AlgorithmId<'_>) -> Result<MacParams, BadAlg>
     ensures exact { Gives (λ p. p) result (params_at (algorithm_of alg.now)) }
+    ensures bound { IfOk result (λ p. 1 ≤ p.rounds) }
 {
     if alg.oid != PBMAC1 {
         return Err(BadAlg);
