@@ -1,0 +1,4 @@
+pub mod Name
+pub mod Header
+pub mod Frame
+pub mod LaterForm
