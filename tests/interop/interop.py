@@ -16,6 +16,7 @@ import reference
 
 USAGE = "usage: cmpca verify SECRET | JOURNAL KEY COMMAND"
 FLIPS = 500
+SECONDS = 60
 
 
 class Runs:
@@ -27,7 +28,10 @@ class Runs:
         self.reads_later = self.answer(*later_probe()) == (1, reference.LATER + "\n")
 
     def answer(self, message: bytes, *words: str) -> tuple[int, str]:
-        run = subprocess.run([self.program, *words], input=message, capture_output=True, timeout=60)
+        try:
+            run = subprocess.run([self.program, *words], input=message, capture_output=True, timeout=SECONDS)
+        except subprocess.TimeoutExpired:
+            return -1, f"no answer in {SECONDS} s"
         if run.stderr:
             return run.returncode, f"{run.stdout!r} and on standard error {run.stderr!r}"
         return run.returncode, run.stdout.decode("utf-8", "backslashreplace")
