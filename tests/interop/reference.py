@@ -97,8 +97,8 @@ def name(item: tuple[int, bytes]) -> None:
 def general_name(item: tuple[int, bytes]) -> None:
     tag, content = item
     require(tag & 0xC0 == 0x80 and tag & 0x1F <= 8)
-    if tag & 0x1F == 4:
-        require(tag == 0xA4)
+    # Of the nine kinds only the constructed directoryName is looked into; a primitive one is taken as it is.
+    if tag == 0xA4:
         name(one(content))
 
 
