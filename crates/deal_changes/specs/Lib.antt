@@ -1,0 +1,6 @@
+pub mod Bind
+pub mod Spki
+pub mod PublicKeys
+pub mod Spelling
+pub mod Reading
+pub mod Times
