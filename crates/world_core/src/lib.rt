@@ -1,0 +1,11 @@
+//! The service as a pure machine, over crashes, doubts and signatures.
+//!
+//! A world is what stands on the disk, what is on its way there, and what has left the service. Its laws hold after every
+//! list of steps. That the calls of the running service are such steps is not said here.
+#![tactic(auto)]
+
+mod laws;
+mod world;
+
+pub use laws::every_world_is_safe;
+pub use world::{Changes, Places, Signed, SignedList, Source, Step, World};
