@@ -1,0 +1,4 @@
+mod Logs
+mod Settling
+mod States
+mod Steps

@@ -1,0 +1,5 @@
+pub mod Journal
+pub mod Log
+pub mod Record
+pub mod Seal
+pub mod Staged
