@@ -1,3 +1,4 @@
+mod Founding
 mod Logs
 mod Settling
 mod States

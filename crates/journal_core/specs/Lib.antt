@@ -1,5 +1,6 @@
 pub mod Journal
 pub mod Log
+pub mod Mounted
 pub mod Record
 pub mod Seal
 pub mod Staged

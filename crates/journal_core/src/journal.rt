@@ -22,7 +22,7 @@ pub(crate) enum Doubt {
 }
 
 /// A journal of payloads on a disk. It keeps no payload in memory.
-#[derive(Debug)]
+#[derive(Debug, Drop)]
 pub struct Journal {
     pub(crate) end: u64,
     pub(crate) count: u64,

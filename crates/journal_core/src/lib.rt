@@ -2,12 +2,16 @@
 //! it stopped, with the new one or without it.
 #![tactic(auto)]
 
+mod begin;
 mod fault;
 mod journal;
 mod limit;
+mod payloads;
+mod reading;
 mod record;
 mod seal;
 
-pub use fault::{AppendFault, DiskFault, PrepareFault};
+pub use fault::{AppendFault, BeginFault, DiskFault, MountFault, PrepareFault};
 pub use journal::Journal;
+pub use payloads::Payloads;
 pub use record::Record;

@@ -9,6 +9,7 @@ ghost use Rattle.journal_core.specs.Seal.{IsBodyFor, IsSealed};
 use cmp_ports::{Disk, Failed};
 
 /// The octets aren't sealed.
+#[derive(Clone, Copy)]
 pub(crate) enum Unsealed {
     /// The gate's write wasn't begun.
     Before,
