@@ -1,5 +1,6 @@
 mod Founding
 mod Logs
+mod Records
 mod Settling
 mod States
 mod Steps

@@ -4,8 +4,10 @@
 
 mod begin;
 mod fault;
+mod image;
 mod journal;
 mod limit;
+mod mount;
 mod payloads;
 mod reading;
 mod record;

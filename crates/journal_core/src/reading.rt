@@ -1,5 +1,5 @@
 //! Reads a log from the octets of a disk.
-ghost use Rattle.std.specs.Prelude.{◌≡◌, ◌+◌, ◌<◌, ◌≤◌, ◌^◌, ◌↔◌, [], ◌∷◌, ◌++◌, length, take, drop, IsTrue, IfOk, OnOk, IsErrOf, MatchOption};
+ghost use Rattle.std.specs.Prelude.{◌≡◌, ◌+◌, ◌<◌, ◌≤◌, ◌^◌, ◌↔◌, true, [], ◌∷◌, ◌++◌, length, take, drop, IsTrue, IfOk, OnOk, IsErrOf, MatchOption};
 ghost use Rattle.journal_core.specs.Log.{framed, log_of, is_founded, IsWhole};
 ghost use Rattle.journal_core.specs.Mounted.{Reads};
 
@@ -48,4 +48,51 @@ fn has_magic(image: &[u8], magic: &[u8; 7]) -> bool
     ensures { IsTrue result ↔ (take 7 (drop 1 image.now) ≡ magic.now) }
 {
     image.split_at(1).1.split_at(7).0 == magic.as_slice()
+}
+
+/// Where the log of an image ends, and its payloads. Never `DiskFault`.
+pub(crate) fn read_log(
+    alloc: Global,
+    image: &[u8],
+    magic: &[u8; 7],
+) -> Result<(u64, Vec<Octets>), MountFault>
+    ensures reads { Reads (λ r. r.1.items) magic.now image.now result }
+    ensures end { IfOk result (λ r. r.0 ≡ length (log_of magic.now r.1.items)) }
+    ensures fault { IsErrOf result MountFault.DiskFault → ⊥ }
+{
+    if !has_log(image) {
+        return Err(MountFault::NotFounded);
+    }
+    if !has_magic(image, magic) {
+        return Err(MountFault::Damaged { at: 1 });
+    }
+    read_records(alloc, image, magic)
+}
+
+// The same, where the image begins with an octet 1 and the magic.
+fn read_records(
+    alloc: Global,
+    image: &[u8],
+    magic: &[u8; 7],
+) -> Result<(u64, Vec<Octets>), MountFault>
+    requires founded { is_founded image.now ≡ true }
+    requires magic { take 7 (drop 1 image.now) ≡ magic.now }
+    ensures reads { Reads (λ r. r.1.items) magic.now image.now result }
+    ensures end { IfOk result (λ r. r.0 ≡ length (log_of magic.now r.1.items)) }
+    ensures fault { IsErrOf result MountFault.DiskFault → ⊥ }
+{
+    let mut payloads = Vec::new(alloc);
+    let mut at = 8u64;
+    let mut rest = image.split_at(8).1;
+    'records: while rest[0] == 1 {
+        let Some((payload, next)) = split_record(rest.split_at(1).1) else {
+            return Err(MountFault::Damaged { at });
+        };
+        if keep(alloc, &mut payloads, payload).is_err() {
+            return Err(MountFault::NoMemory);
+        }
+        at += 5 + payload.len() as u64;
+        rest = next;
+    }
+    Ok((at, payloads))
 }
