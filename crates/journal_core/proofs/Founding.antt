@@ -1,10 +1,10 @@
 -- The first octet of a disk, and the log that found begins.
-use Rattle.std.proofs.Common.{◌≡◌, ◌≢◌, ◌⊎◌, inl, inr, ℕ, zero, suc, ◌+◌, ◌<◌, ◌≤◌, ◌^◌, nat_eq, nat_lt, false, List, [], ◌∷◌, ◌++◌, length, take, drop, slice_index_or, refl, sym, ◌∙◌, ap, subst, arith, length-append}
+use Rattle.std.proofs.Common.{◌≡◌, ◌⊎◌, inl, inr, ℕ, zero, suc, ◌+◌, ◌<◌, ◌≤◌, ◌^◌, nat_eq, nat_lt, false, List, [], ◌∷◌, ◌++◌, length, take, slice_index_or, refl, sym, ◌∙◌, ap, subst, arith, length-append}
 use Rattle.std.proofs.lemmas.List.{append-nil}
 use Rattle.std.proofs.lemmas.Bool.{cases_eq, eqb-false}
 use Rattle.cmp_ports.specs.Disk.{Every}
 use Rattle.journal_core.specs.declared.journal.Doubt.TheVariants.{Clear}
-use Rattle.journal_core.specs.Log.{framed, records, log_of, is_open, ClosedAfter, Recovers}
+use Rattle.journal_core.specs.Log.{framed, log_of, is_open, ClosedAfter, Recovers}
 use Rattle.journal_core.specs.Staged.{StagedAfter}
 use Rattle.journal_core.specs.Seal.{IsBodyFor}
 use Rattle.journal_core.specs.Journal.{IsKeptAs}

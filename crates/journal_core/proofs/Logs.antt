@@ -1,7 +1,6 @@
 -- Logs with one payload more, and the lengths of records.
-use Rattle.std.proofs.Common.{◌≡◌, ℕ, ◌+◌, ◌<◌, ◌^◌, List, [], ◌∷◌, ◌++◌, length, refl, sym, ◌∙◌, ap, arith, append_assoc, length-append}
+use Rattle.std.proofs.Common.{◌≡◌, ℕ, ◌+◌, ◌<◌, ◌^◌, List, [], ◌∷◌, ◌++◌, length, sym, ◌∙◌, ap, arith, append_assoc, length-append}
 use Rattle.std.proofs.lemmas.List.{append-nil}
-use Rattle.std.specs.Int.{w32, to_be_bytes}
 use Rattle.journal_core.specs.Log.{framed, records, log_of, AreSmall}
 
 pub length-framed : (payload : List ℕ) → length (framed payload) ≡ length payload + 4

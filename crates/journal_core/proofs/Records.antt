@@ -1,9 +1,9 @@
 -- The log of the payloads so far, with the record that comes next.
-use Rattle.std.proofs.Common.{◌≡◌, ◌≢◌, ℕ, zero, suc, ◌+◌, ◌<◌, ◌≤◌, ◌^◌, nat_le, true, List, [], ◌∷◌, ◌++◌, length, take, drop, slice_index_or, refl, sym, ◌∙◌, ap, arith, append_assoc, length-append, take-append-drop}
-use Rattle.std.proofs.lemmas.List.{append-nil, drop-drop, take_all}
+use Rattle.std.proofs.Common.{◌≡◌, ◌≢◌, ℕ, ◌+◌, ◌<◌, ◌≤◌, ◌^◌, nat_le, true, List, [], ◌∷◌, ◌++◌, length, take, drop, slice_index_or, sym, ◌∙◌, ap, subst, arith, append_assoc, length-append, take-append-drop}
+use Rattle.std.proofs.lemmas.List.{append-nil, take_all}
 use Rattle.std.proofs.Math.Seq.{take-add}
 use Rattle.std.proofs.lemmas.Bool.{and_parts, eqb-true, leb-true}
-use Rattle.journal_core.specs.Log.{framed, records, log_of, is_open, is_founded, ClosedAfter, AreSmall, Recovers, IsWhole, IsBroken}
+use Rattle.journal_core.specs.Log.{framed, log_of, is_open, is_founded, ClosedAfter, AreSmall, IsWhole, IsBroken}
 use Rattle.journal_core.proofs.Logs.{log_push, length-log_push, small_push}
 
 -- the first octet is cut off
@@ -27,14 +27,21 @@ pub founded_size : (image : List ℕ) → is_founded image ≡ true → 9 ≤ le
 founded_size image founded = leb-true 9 (length image) (and_parts (nat_le 9 (length image)) (is_open image) founded).0
 
 -- one record more
-pub next_record : (magic image rest payload next : List ℕ) (payloads : List (List ℕ)) → image ≡ log_of magic payloads ++ rest → rest ≡ 1 ∷ drop 1 rest → drop 1 rest ≡ framed payload ++ next → image ≡ log_of magic (payloads ++ payload ∷ []) ++ next
-next_record magic image rest payload next payloads is one whole =
-    is ∙ ap (λ (l : List ℕ). log_of magic payloads ++ l) (one ∙ ap (λ (l : List ℕ). 1 ∷ l) whole)
-    ∙ sym (append_assoc (log_of magic payloads) (1 ∷ framed payload) next)
-    ∙ ap (λ (l : List ℕ). l ++ next) (sym (log_push magic payloads payload))
+module _ (magic payload : List ℕ) (payloads new : List (List ℕ)) (pushed : new ≡ payloads ++ payload ∷ []) where
+  pub next_small : AreSmall payloads → length payload < 2 ^ 32 → AreSmall new
+  next_small small fits = subst (λ (l : List (List ℕ)). AreSmall l) (sym pushed) (small_push payloads payload small fits)
 
-pub next_offset : (magic payload : List ℕ) (payloads : List (List ℕ)) (at n : ℕ) → at ≡ length (log_of magic payloads) → n ≡ length payload → at + (5 + n) ≡ length (log_of magic (payloads ++ payload ∷ []))
-next_offset magic payload payloads at n is size = omega (arith, is, size, length-log_push magic payloads payload)
+  pub next_record : (image rest next : List ℕ) → image ≡ log_of magic payloads ++ rest → rest ≡ 1 ∷ drop 1 rest → drop 1 rest ≡ framed payload ++ next → image ≡ log_of magic new ++ next
+  next_record image rest next is one whole =
+      is ∙ ap (λ (l : List ℕ). log_of magic payloads ++ l) (one ∙ ap (λ (l : List ℕ). 1 ∷ l) whole)
+      ∙ sym (append_assoc (log_of magic payloads) (1 ∷ framed payload) next)
+      ∙ ap (λ (l : List ℕ). l ++ next) (sym (log_push magic payloads payload))
+      ∙ ap (λ (l : List (List ℕ)). log_of magic l ++ next) (sym pushed)
+
+  pub next_offset : (at n : ℕ) → at ≡ length (log_of magic payloads) → n ≡ length payload → at + (5 + n) ≡ length (log_of magic new)
+  next_offset at n is size =
+      let grown : at + (5 + n) ≡ length (log_of magic (payloads ++ payload ∷ [])) = omega (arith, is, size, length-log_push magic payloads payload) in
+      grown ∙ ap (λ (l : List (List ℕ)). length (log_of magic l)) (sym pushed)
 
 -- the record isn't whole
 pub broken_at : (magic image rest : List ℕ) (payloads : List (List ℕ)) (at : ℕ) → AreSmall payloads → image ≡ log_of magic payloads ++ rest → rest ≡ 1 ∷ drop 1 rest → at ≡ length (log_of magic payloads) → (IsWhole (drop 1 rest) → ⊥) → IsBroken magic image at

@@ -1,5 +1,5 @@
 -- What settle's write of a closed gate makes of a journal whose gate is in doubt.
-use Rattle.std.proofs.Common.{◌≡◌, ℕ, ◌≤◌, List, [], ◌∷◌, length, sym, subst, arith}
+use Rattle.std.proofs.Common.{◌≡◌, ℕ, List, [], ◌∷◌, sym, subst, arith}
 use Rattle.cmp_ports.specs.Disk.{Torn, Follows, Reached, Every, overwritten}
 use Rattle.journal_core.specs.declared.journal.Doubt.{Doubt}
 use Rattle.journal_core.specs.declared.journal.Doubt.TheVariants.{Clear, Gate}

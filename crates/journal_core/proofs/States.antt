@@ -1,11 +1,11 @@
 -- A journal's states, from one call to the next.
-use Rattle.std.proofs.Common.{◌≡◌, ◌≢◌, ◌⊎◌, inl, inr, ℕ, ◌+◌, ◌<◌, ◌≤◌, ◌^◌, Bool, true, false, List, [], ◌∷◌, ◌++◌, length, refl, sym, ◌∙◌, ap, subst, arith, append_assoc, length-append}
+use Rattle.std.proofs.Common.{◌≡◌, ◌⊎◌, inl, inr, ℕ, ◌+◌, ◌<◌, ◌≤◌, ◌^◌, Bool, false, List, [], ◌∷◌, ◌++◌, length, sym, ◌∙◌, ap, subst, arith, append_assoc, length-append}
 use Rattle.std.proofs.lemmas.Bool.{cases_eq, or_parts, ltb-false}
 use Rattle.std.specs.Prelude.{nat_le, nat_lt}
 use Rattle.cmp_ports.specs.Disk.{Every}
 use Rattle.journal_core.specs.declared.journal.Doubt.{Doubt}
 use Rattle.journal_core.specs.declared.journal.Doubt.TheVariants.{Clear, Before, Gate}
-use Rattle.journal_core.specs.Log.{framed, log_of, ClosedAfter, AreSmall, Recovers, IsBeforeOrAfter}
+use Rattle.journal_core.specs.Log.{framed, log_of, ClosedAfter, AreSmall, IsBeforeOrAfter}
 use Rattle.journal_core.specs.Staged.{StagedAfter}
 use Rattle.journal_core.specs.Seal.{IsBodyFor}
 use Rattle.journal_core.specs.Journal.{IsInState, IsKeptAs, is_in_doubt, is_past_limit}
@@ -34,8 +34,7 @@ pub appended : (magic : List ℕ) (payloads : List (List ℕ)) (any payload : Li
     → length payload ≤ 1073741824 → more ≡ length payload + 5 → Every new (ClosedAfter (log_of magic payloads ++ 1 ∷ framed payload))
     → IsKeptAs magic (payloads ++ payload ∷ []) [] (last + more) (count + 1) doubt new × (is_in_doubt doubt ≡ false)
 appended magic payloads any payload last count more doubt images new kept clear fits grows closed =
-    let there : Every new (ClosedAfter (log_of magic (payloads ++ payload ∷ []))) = subst (λ (l : List ℕ). Every new (ClosedAfter l)) (sym (log_push magic payloads payload)) closed in
-    (
+    let there : Every new (ClosedAfter (log_of magic (payloads ++ payload ∷ []))) = subst (λ (l : List ℕ). Every new (ClosedAfter l)) (sym (log_push magic payloads payload)) closed in (
       record {
         small = small_push payloads payload kept.small (omega (arith, fits));
         fits = omega arith;

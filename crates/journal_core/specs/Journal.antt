@@ -6,7 +6,7 @@ use Rattle.journal_core.specs.declared.journal.Doubt.{Doubt}
 use Rattle.journal_core.specs.declared.journal.Doubt.TheVariants.{Clear, Before, Gate}
 use Rattle.journal_core.specs.declared.fault.AppendFault.{AppendFault}
 use Rattle.journal_core.specs.declared.fault.AppendFault.TheVariants.{Full, DiskFault}
-use Rattle.journal_core.specs.Log.{framed, log_of, ClosedAfter, AreSmall, Recovers}
+use Rattle.journal_core.specs.Log.{framed, log_of, ClosedAfter, AreSmall}
 use Rattle.journal_core.specs.Staged.{StagedAfter}
 
 -- by the doubt: each image goes on behind the front with a closed gate, or with a gate and the body behind it

@@ -1,5 +1,5 @@
 -- The octets that an append writes: a length, a payload and a closed gate.
-use Rattle.std.specs.Prelude.{◌≡◌, ℕ, ◌+◌, ◌-◌, ◌≤◌, ◌^◌, List, [], ◌∷◌, ◌++◌, length, take, drop}
+use Rattle.std.specs.Prelude.{◌≡◌, ℕ, ◌+◌, ◌-◌, ◌≤◌, List, [], ◌∷◌, ◌++◌, length, take, drop}
 use Rattle.journal_core.specs.Log.{framed}
 
 -- what stands behind the four octets of length and before the closed gate

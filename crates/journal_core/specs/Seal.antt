@@ -1,5 +1,5 @@
 -- The two writes that make a body count: the body and a closed gate behind it, and then the open gate before it.
-use Rattle.std.specs.Prelude.{◌≡◌, ◌≢◌, ℕ, List, [], ◌∷◌, ◌++◌, length, Result, Ok, Err}
+use Rattle.std.specs.Prelude.{◌≡◌, ℕ, List, [], ◌∷◌, ◌++◌, length, Result, Ok, Err}
 use Rattle.cmp_ports.specs.Disk.{Every}
 use Rattle.journal_core.specs.declared.seal.Unsealed.{Unsealed}
 use Rattle.journal_core.specs.declared.seal.Unsealed.TheVariants.{Before, Gate}

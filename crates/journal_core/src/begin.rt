@@ -75,7 +75,11 @@ impl Journal {
             Err(_) => return Err(PrepareFault::DiskFault),
         };
         if size >= 9 {
-            return if open { Err(PrepareFault::Already) } else { Ok(()) };
+            return if open {
+                Err(PrepareFault::Already)
+            } else {
+                Ok(())
+            };
         }
         match write_through(disk, 0, &[0]) {
             Ok(()) => Ok(()),
@@ -85,7 +89,12 @@ impl Journal {
 
     /// Begins a log with this magic and this first payload, on a disk that was prepared. Until it answers Ok the disk
     /// may be not founded. `NoMemory` leaves the disk as it was.
-    pub fn found<D: Disk>(alloc: Global, disk: &mut D, magic: &[u8; 7], first: &[u8]) -> Result<Journal, BeginFault>
+    pub fn found<D: Disk>(
+        alloc: Global,
+        disk: &mut D,
+        magic: &[u8; 7],
+        first: &[u8],
+    ) -> Result<Journal, BeginFault>
         requires prepared { Every (D.images disk.old) (ClosedAfter []) }
         requires small { length first.now ≤ 1073741824 }
 

@@ -26,7 +26,11 @@ fn zeros(alloc: Global, count: usize) -> Result<Vec<u8>, AllocError>
 }
 
 // Reads a piece behind what there is of the image, and tells whether there was any.
-fn read_piece<D: Disk>(disk: &mut D, image: &mut Vec<u8>, piece: &mut [u8]) -> Result<bool, ImageFault>
+fn read_piece<D: Disk>(
+    disk: &mut D,
+    image: &mut Vec<u8>,
+    piece: &mut [u8],
+) -> Result<bool, ImageFault>
     requires room { 0 < length piece.old }
     requires so_far { (f : List ℕ) → D.content disk.old ≡ Some f → image.old.items ≡ take (length image.old.items) f }
     ensures so_far { (f : List ℕ) → D.content disk.old ≡ Some f → image.new.items ≡ take (length image.new.items) f }
@@ -50,7 +54,12 @@ fn read_piece<D: Disk>(disk: &mut D, image: &mut Vec<u8>, piece: &mut [u8]) -> R
 }
 
 // Reads the image to its end.
-fn read_rest<D: Disk>(disk: &mut D, image: &mut Vec<u8>, piece: &mut [u8], size: u64) -> Result<(), ImageFault>
+fn read_rest<D: Disk>(
+    disk: &mut D,
+    image: &mut Vec<u8>,
+    piece: &mut [u8],
+    size: u64,
+) -> Result<(), ImageFault>
     requires room { 0 < length piece.old }
     requires empty { image.old.items ≡ [] }
     requires size { (f : List ℕ) → D.content disk.old ≡ Some f → size ≡ length f }

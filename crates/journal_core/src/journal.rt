@@ -7,9 +7,6 @@ use crate::record::Record;
 use crate::seal::{Unsealed, seal, write_through};
 use cmp_ports::Disk;
 
-
-
-
 /// How far the last append came.
 #[derive(Clone, Copy, Debug, PartialEq, Eq)]
 pub(crate) enum Doubt {

@@ -85,11 +85,13 @@ fn read_records(
     let mut at = 8u64;
     let mut rest = image.split_at(8).1;
     'records: while rest[0] == 1 {
-        let Some((payload, next)) = split_record(rest.split_at(1).1) else {
-            return Err(MountFault::Damaged { at });
+        let (payload, next) = match split_record(rest.split_at(1).1) {
+            Some(parts) => parts,
+            None => return Err(MountFault::Damaged { at }),
         };
-        if keep(alloc, &mut payloads, payload).is_err() {
-            return Err(MountFault::NoMemory);
+        match keep(alloc, &mut payloads, payload) {
+            Ok(()) => {}
+            Err(_) => return Err(MountFault::NoMemory),
         }
         at += 5 + payload.len() as u64;
         rest = next;

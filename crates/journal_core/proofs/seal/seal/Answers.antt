@@ -1,4 +1,4 @@
-use Rattle.std.proofs.Common.{◌≡◌, ◌⊎◌, inl, inr, ℕ, ◌+◌, List, [], ◌∷◌, ◌++◌, length, subst, arith}
+use Rattle.std.proofs.Common.{◌≡◌, ◌⊎◌, inl, inr, ℕ, ◌+◌, List, length, subst, arith}
 use Rattle.cmp_ports.specs.Disk.{Torn, Follows, Reached, Every, overwritten}
 use Rattle.cmp_ports.specs.Moments.{weaker, joins}
 use Rattle.journal_core.specs.Log.{ClosedAfter}
@@ -21,7 +21,7 @@ returns-in-Err-clause-outcome g c = λ front body is. closed_still _ _ front bod
 pub returns-in-Err-clause-moments : goal.returns-in-Err-clause-moments
 returns-in-Err-clause-moments g c = λ front body is.
     weaker g.D.Disk.moment g.D.Disk.left_since _ _ _ (λ (i : List ℕ). ClosedAfter front i ⊎ StagedAfter front body i) c.write_through.ensures.moments
-      (λ i left. inl (closed_still _ (Reached (Torn (c.args.gate + 1) (length c.args.octets.now)) (g.D.Disk.images c.args.disk.now)) front body c.args.octets.now c.args.gate is (λ j r. r) i left))
+    (λ i left. inl (closed_still _ (Reached (Torn (c.args.gate + 1) (length c.args.octets.now)) (g.D.Disk.images c.args.disk.now)) front body c.args.octets.now c.args.gate is (λ j r. r) i left))
 
 pub returns-in-Ok-write_through-clause-outcome : goal.returns-in-Ok-write_through-clause-outcome
 returns-in-Ok-write_through-clause-outcome g c = λ front body is.
@@ -38,9 +38,9 @@ returns-in-Ok-write_through-clause-moments g c = λ front body is.
     let P : List ℕ → Type 0 = λ i. ClosedAfter front i ⊎ StagedAfter front body i in
     let staged = staged_now _ _ front body c.args.octets.now c.args.gate is c.in-Ok.ensures.written in
     let first = weaker g.D.Disk.moment g.D.Disk.left_since c.args.disk.now c.write_through.new.disk _ P c.write_through.ensures.moments
-      (λ i left. inl (closed_still _ (Reached (Torn (c.args.gate + 1) (length c.args.octets.now)) (g.D.Disk.images c.args.disk.now)) front body c.args.octets.now c.args.gate is (λ j r. r) i left)) in
+    (λ i left. inl (closed_still _ (Reached (Torn (c.args.gate + 1) (length c.args.octets.now)) (g.D.Disk.images c.args.disk.now)) front body c.args.octets.now c.args.gate is (λ j r. r) i left)) in
     let second = weaker g.D.Disk.moment g.D.Disk.left_since c.write_through.new.disk c.write_through-2.new.disk _ P c.write_through-2.ensures.moments
-      (λ i left. inr (all_gate _ (Reached (Torn c.args.gate 1) (g.D.Disk.images c.write_through.new.disk)) c.args.gate front body is.at staged (λ j r. r) i left)) in
+    (λ i left. inr (all_gate _ (Reached (Torn c.args.gate 1) (g.D.Disk.images c.write_through.new.disk)) c.args.gate front body is.at staged (λ j r. r) i left)) in
     joins g.D.Disk.moment g.D.Disk.left_since c.args.disk.now c.write_through.new.disk c.write_through-2.new.disk P first second
 
 pub returns-in-Err-write_through-clause-moments : goal.returns-in-Err-write_through-clause-moments
@@ -48,7 +48,7 @@ returns-in-Err-write_through-clause-moments g c = λ front body is.
     let P : List ℕ → Type 0 = λ i. ClosedAfter front i ⊎ StagedAfter front body i in
     let staged = staged_now _ _ front body c.args.octets.now c.args.gate is c.in-Ok.ensures.written in
     let first = weaker g.D.Disk.moment g.D.Disk.left_since c.args.disk.now c.write_through.new.disk _ P c.write_through.ensures.moments
-      (λ i left. inl (closed_still _ (Reached (Torn (c.args.gate + 1) (length c.args.octets.now)) (g.D.Disk.images c.args.disk.now)) front body c.args.octets.now c.args.gate is (λ j r. r) i left)) in
+    (λ i left. inl (closed_still _ (Reached (Torn (c.args.gate + 1) (length c.args.octets.now)) (g.D.Disk.images c.args.disk.now)) front body c.args.octets.now c.args.gate is (λ j r. r) i left)) in
     let second = weaker g.D.Disk.moment g.D.Disk.left_since c.write_through.new.disk c.write_through-2.new.disk _ P c.write_through-2.ensures.moments
-      (λ i left. inr (all_gate _ (Reached (Torn c.args.gate 1) (g.D.Disk.images c.write_through.new.disk)) c.args.gate front body is.at staged (λ j r. r) i left)) in
+    (λ i left. inr (all_gate _ (Reached (Torn c.args.gate 1) (g.D.Disk.images c.write_through.new.disk)) c.args.gate front body is.at staged (λ j r. r) i left)) in
     joins g.D.Disk.moment g.D.Disk.left_since c.args.disk.now c.write_through.new.disk c.write_through-2.new.disk P first second

@@ -1,4 +1,4 @@
-use Rattle.std.proofs.Common.{◌≡◌, ℕ, ◌<◌, ◌≤◌, ◌^◌, List, [], ◌∷◌, ◌++◌, length, refl, subst, arith, Err}
+use Rattle.std.proofs.Common.{ℕ, ◌<◌, ◌≤◌, ◌^◌, [], ◌∷◌, ◌++◌, length, refl, subst, arith, Err}
 use Rattle.cmp_ports.specs.Moments.{weaker}
 use Rattle.journal_core.specs.declared.seal.Unsealed.{Unsealed}
 use Rattle.journal_core.specs.Log.{framed, log_of, IsBeforeOrAfter}
@@ -27,7 +27,7 @@ returns-in-Ok-clause-moments g c = λ magic payloads rest.
     let octets = c.octets-octets.ensures in
     let body = body_for magic payloads [] c.args.entry.now c.octets-octets.result.now c.args.self.now.end c.args.self.now.count c.args.self.now.doubt (g.D.Disk.images c.args.disk.now) rest.0 rest.1 octets.spelled in
     weaker g.D.Disk.moment g.D.Disk.left_since _ _ _ (IsBeforeOrAfter magic payloads c.args.entry.now) (c.seal.ensures.moments (log_of magic payloads) (framed c.args.entry.now) body)
-      (λ i left. either_recovers magic payloads c.args.entry.now i rest.0.small (small_enough (length c.args.entry.now) octets.fits) left)
+    (λ i left. either_recovers magic payloads c.args.entry.now i rest.0.small (small_enough (length c.args.entry.now) octets.fits) left)
 
 pub returns-in-Err-Before-clause-outcome : goal.returns-in-Err-Before-clause-outcome
 returns-in-Err-Before-clause-outcome g c = λ magic payloads rest.
@@ -47,7 +47,7 @@ returns-in-Err-Before-clause-moments g c = λ magic payloads rest.
     let octets = c.octets-octets.ensures in
     let body = body_for magic payloads [] c.args.entry.now c.octets-octets.result.now c.args.self.now.end c.args.self.now.count c.args.self.now.doubt (g.D.Disk.images c.args.disk.now) rest.0 rest.1 octets.spelled in
     weaker g.D.Disk.moment g.D.Disk.left_since _ _ _ (IsBeforeOrAfter magic payloads c.args.entry.now) (c.seal.ensures.moments (log_of magic payloads) (framed c.args.entry.now) body)
-      (λ i left. either_recovers magic payloads c.args.entry.now i rest.0.small (small_enough (length c.args.entry.now) octets.fits) left)
+    (λ i left. either_recovers magic payloads c.args.entry.now i rest.0.small (small_enough (length c.args.entry.now) octets.fits) left)
 
 pub returns-in-Err-Gate-clause-outcome : goal.returns-in-Err-Gate-clause-outcome
 returns-in-Err-Gate-clause-outcome g c = λ magic payloads rest.
@@ -67,4 +67,4 @@ returns-in-Err-Gate-clause-moments g c = λ magic payloads rest.
     let octets = c.octets-octets.ensures in
     let body = body_for magic payloads [] c.args.entry.now c.octets-octets.result.now c.args.self.now.end c.args.self.now.count c.args.self.now.doubt (g.D.Disk.images c.args.disk.now) rest.0 rest.1 octets.spelled in
     weaker g.D.Disk.moment g.D.Disk.left_since _ _ _ (IsBeforeOrAfter magic payloads c.args.entry.now) (c.seal.ensures.moments (log_of magic payloads) (framed c.args.entry.now) body)
-      (λ i left. either_recovers magic payloads c.args.entry.now i rest.0.small (small_enough (length c.args.entry.now) octets.fits) left)
+    (λ i left. either_recovers magic payloads c.args.entry.now i rest.0.small (small_enough (length c.args.entry.now) octets.fits) left)

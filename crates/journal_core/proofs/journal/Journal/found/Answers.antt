@@ -20,10 +20,10 @@ pub returns-in-Ok-seal-clause-moments : goal.returns-in-Ok-seal-clause-moments
 returns-in-Ok-seal-clause-moments g c =
     let body = first_body c.args.magic.now c.args.first.now c.deref.result.now (g.D.Disk.images c.args.disk.now) c.requires.prepared (c.deref.ensures.value ∙ c.in-Ok.ensures.spelled) in
     weaker g.D.Disk.moment g.D.Disk.left_since _ _ _ (λ (i : List ℕ). ClosedAfter [] i ⊎ Recovers c.args.magic.now i (c.args.first.now ∷ [])) (c.seal.ensures.moments [] (c.args.magic.now ++ 1 ∷ framed c.args.first.now) body)
-      (λ i left. begun c.args.magic.now c.args.first.now i c.requires.small left)
+    (λ i left. begun c.args.magic.now c.args.first.now i c.requires.small left)
 
 pub returns-clause-moments : goal.returns-clause-moments
 returns-clause-moments g c =
     let body = first_body c.args.magic.now c.args.first.now c.deref.result.now (g.D.Disk.images c.args.disk.now) c.requires.prepared (c.deref.ensures.value ∙ c.in-Ok.ensures.spelled) in
     weaker g.D.Disk.moment g.D.Disk.left_since _ _ _ (λ (i : List ℕ). ClosedAfter [] i ⊎ Recovers c.args.magic.now i (c.args.first.now ∷ [])) (c.seal.ensures.moments [] (c.args.magic.now ++ 1 ∷ framed c.args.first.now) body)
-      (λ i left. begun c.args.magic.now c.args.first.now i c.requires.small left)
+    (λ i left. begun c.args.magic.now c.args.first.now i c.requires.small left)

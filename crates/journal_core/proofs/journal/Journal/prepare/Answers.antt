@@ -1,4 +1,4 @@
-use Rattle.std.proofs.Common.{◌≡◌, sym, ◌∙◌, subst, ◌≤◌, arith, length}
+use Rattle.std.proofs.Common.{sym, ◌∙◌, ◌≤◌, arith, length}
 use Rattle.journal_core.proofs.Founding.{closed_front}
 use Rattle.journal_core.proofs.journal.Journal.prepare.Goals as goal
 

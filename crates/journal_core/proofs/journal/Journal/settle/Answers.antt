@@ -19,7 +19,7 @@ returns-in-Ok-clause-sound g c =
 pub returns-in-Ok-clause-moments : goal.returns-in-Ok-clause-moments
 returns-in-Ok-clause-moments g c = λ magic payloads payload kept.
     weaker g.D.Disk.moment g.D.Disk.left_since _ _ _ (IsBeforeOrAfter magic payloads payload) c.write_through.ensures.moments
-      (λ i left. gate_recovers magic payloads payload c.args.self.now.end c.args.self.now.count c.args.self.now.doubt (g.D.Disk.images c.args.disk.now) kept c.in-Gate.is i left)
+    (λ i left. gate_recovers magic payloads payload c.args.self.now.end c.args.self.now.count c.args.self.now.doubt (g.D.Disk.images c.args.disk.now) kept c.in-Gate.is i left)
 
 pub returns-in-Err-clause-sound : goal.returns-in-Err-clause-sound
 returns-in-Err-clause-sound g c =
@@ -33,4 +33,4 @@ returns-in-Err-clause-outcome g c = λ magic payloads payload kept.
 pub returns-in-Err-clause-moments : goal.returns-in-Err-clause-moments
 returns-in-Err-clause-moments g c = λ magic payloads payload kept.
     weaker g.D.Disk.moment g.D.Disk.left_since _ _ _ (IsBeforeOrAfter magic payloads payload) c.write_through.ensures.moments
-      (λ i left. gate_recovers magic payloads payload c.args.self.now.end c.args.self.now.count c.args.self.now.doubt (g.D.Disk.images c.args.disk.now) kept c.in-Gate.is i left)
+    (λ i left. gate_recovers magic payloads payload c.args.self.now.end c.args.self.now.count c.args.self.now.doubt (g.D.Disk.images c.args.disk.now) kept c.in-Gate.is i left)
