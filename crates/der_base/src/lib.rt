@@ -9,6 +9,7 @@ mod laws;
 #[cfg(test)]
 mod tests;
 mod values;
+mod writer;
 
 pub use bit_string::Bits;
 pub use element::{Element, read_element, whole};
@@ -16,3 +17,4 @@ pub use fault::DerFault;
 pub use items::Items;
 pub use laws::{begins_no_other, one_spelling, row_is_read};
 pub use values::{bits, boolean, integer, null, octets, oid, utf8};
+pub use writer::Writer;
