@@ -1,0 +1,10 @@
+pub mod AlgorithmLemmas
+pub mod ExtensionLemmas
+pub mod GeneralLemmas
+pub mod KeyLemmas
+pub mod LengthLemmas
+pub mod NameLemmas
+pub mod OptionalLemmas
+pub mod ReadLemmas
+pub mod RowLemmas
+pub mod ValueLemmas

@@ -1,0 +1,46 @@
+-- Public keys with their algorithms (RFC 5280, 4.1.2.7).
+use Rattle.std.specs.Prelude.{ℕ, ◌+◌, ◌^◌, ◌<◌, ◌++◌, ◌==◌, if◌then◌else◌, List, ◌∷◌, length, take, Option, Some, None}
+use Rattle.sha2.specs.Sha256.{sha256}
+use Rattle.der_base.specs.Element.{element}
+use Rattle.der_base.specs.Reading.{Part}
+use Rattle.der_base.specs.Values.{bits_at}
+use Rattle.asn_fields.specs.Fields.{◌>>=◌, ok_of, field_at, sole_at}
+use Rattle.asn_types.specs.Algorithm.{Algorithm, FitsAlgorithm, algorithm_content, algorithm_of, algorithm_at}
+use Rattle.asn_types.specs.declared.spki.Spki.{Spki}
+
+-- a key's algorithm, and its octets
+pub record Key : Type 0 where
+  pub alg : Algorithm
+  pub key : List ℕ
+
+-- what stands in the SEQUENCE of SubjectPublicKeyInfo: the algorithm, and the key as a BIT STRING with no unused bits
+abbrev pub key_content : Key → List ℕ
+key_content k = element 0x30 (algorithm_content k.alg) ++ element 0x03 (0 ∷ k.key)
+
+-- The parts have the forms of their types.
+pub record FitsKey (k : Key) : Type 0 where
+  pub alg : FitsAlgorithm k.alg
+  pub alg_counted : length (algorithm_content k.alg) < 2 ^ 32
+  pub key_counted : length k.key + 1 < 2 ^ 32
+
+-- what a key that was read shows
+abbrev pub key_of : Spki → Key
+key_of s = record { alg = algorithm_of s.alg; key = s.key.now }
+
+-- what is read: the octets of a BIT STRING with no unused bits
+unfoldable pub plain_bits_at : Part → Option (List ℕ)
+plain_bits_at p = do
+  b ← ok_of (bits_at p)
+  if b.unused == 0 then Some b.octets else None
+
+unfoldable pub key_at : List ℕ → Option Key
+key_at content = do
+  a ← field_at 0x30 content
+  alg ← algorithm_at a.0.content
+  k ← sole_at 0x03 a.1
+  key ← plain_bits_at k
+  Some (record { alg = alg; key = key })
+
+-- The key identifier: the first 20 octets of the SHA-256 of the key's octets (RFC 7093, section 2, method 1).
+abbrev pub key_identifier : List ℕ → List ℕ
+key_identifier key = take 20 (sha256 key)
