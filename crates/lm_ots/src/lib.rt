@@ -9,7 +9,8 @@
 pub use key::{KeyPart, public_hash, public_hash_in};
 pub use message::opened;
 pub use signature::{
-    SignFault, candidate, candidate_in_set, sign_ots, sign_ots_in, signature_leads_to_key,
+    SignFault, candidate, candidate_in_set, recovered_hash, sign_ots, sign_ots_in,
+    signature_leads_to_key,
 };
 
 mod chain;

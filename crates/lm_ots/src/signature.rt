@@ -152,8 +152,9 @@ fn recovered_end_in<const W: u32, const P: usize, const LS: u32>(
     chain(id, q, i as u16, coef(octets, i, W), set.greatest(), &value)
 }
 
-// The public hash that a signature in form leads to.
-fn recovered_hash<const W: u32, const P: usize, const LS: u32>(
+/// The public hash that a signature of `text` leads to, under a set, where the signature has the
+/// set's length (RFC 8554, 4.6, algorithm 4b, step 3). It is for the caller to test the typecode.
+pub fn recovered_hash<const W: u32, const P: usize, const LS: u32>(
     set: Ots<W, P, LS>,
     id: &[u8; 16],
     q: u32,

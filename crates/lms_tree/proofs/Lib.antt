@@ -1,0 +1,4 @@
+pub mod KeyLemmas
+pub mod Law
+pub mod NodeLemmas
+pub mod PathLemmas
