@@ -8,6 +8,7 @@ use Rattle.cmpca.specs.Words.{asked_secret}
 use Rattle.cmp_frame.specs.Frame.{frame_at, message_limit}
 use Rattle.cmp_frame.specs.LaterForm.{has_later_form}
 use Rattle.cmpca.specs.Verdict.{verdict_of}
+use Rattle.cmpca.specs.Causes.{VerdictIsCaused}
 use Rattle.cmpca.specs.Reply.{Ran, Wrote, IsReply, TellsVerdict, verdict_status, verdict_line, usage_line, line}
 use Rattle.cmpca.specs.declared.verdict.Verdict.{Verdict}
 use Rattle.cmpca.specs.declared.verdict.Verdict.TheVariants.{Verified, LaterForm, BadDataFormat, Unprotected, BadAlg, WrongMac}
@@ -54,10 +55,10 @@ told_reply words input text BadAlg h = h
 told_reply words input text WrongMac h = h
 
 -- the run that tells a verdict
-pub ran_verdict : (words : List (List ℕ)) (left old new : Option (List ℕ)) (reply status : Status) (secret octets text : List ℕ) (v : Verdict)
+pub ran_verdict : VerdictIsCaused → (words : List (List ℕ)) (left old new : Option (List ℕ)) (reply status : Status) (secret octets text : List ℕ) (v : Verdict)
     → asked_secret words ≡ Some secret → IfSome left (λ all. octets ≡ take (message_limit + 1) all) → v ≡ verdict_of secret octets
     → reply ≡ verdict_status v → text ≡ verdict_line v → Wrote old new reply text status → Ran words left old new status
-ran_verdict words left old new reply status secret octets text v asked read is ends says wrote =
+ran_verdict law words left old new reply status secret octets text v asked read is ends says wrote =
     let i = told_input left secret octets read in
     let same : v ≡ verdict_of secret i.0 = is ∙ i.2 in
     record {
@@ -65,7 +66,14 @@ ran_verdict words left old new reply status secret octets text v asked read is e
       reply = verdict_status v;
       text = text;
       read = i.1;
-      is_reply = told_reply words i.0 text v record { secret = secret; asked = asked; ends = ap verdict_status same; says = says ∙ ap verdict_line same };
+      is_reply = told_reply words i.0 text v record {
+        secret = secret;
+        asked = asked;
+        ends = ap verdict_status same;
+        says = says ∙ ap verdict_line same;
+        is_verdict = (law secret i.0 (verdict_of secret i.0)).1 refl;
+        sole_verdict = λ w h. (law secret i.0 w).0 h;
+      };
       wrote = subst (λ (r : Status). Wrote old new r text status) ends wrote;
     }
 

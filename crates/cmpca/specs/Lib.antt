@@ -1,4 +1,5 @@
 pub mod Status
 pub mod Words
 pub mod Verdict
+pub mod Causes
 pub mod Reply

@@ -4,6 +4,7 @@ use Rattle.std.specs.Io.KnownBytes.{Appends}
 use Rattle.cmp_ports.specs.Whole.{AppendsPrefix}
 use Rattle.cmpca.specs.Words.{asked_secret}
 use Rattle.cmpca.specs.Verdict.{verdict_of}
+use Rattle.cmpca.specs.Causes.{IsVerdict}
 use Rattle.cmpca.specs.declared.verdict.Verdict.{Verdict}
 use Rattle.cmpca.specs.declared.verdict.Verdict.TheVariants.{Verified, LaterForm, BadDataFormat, Unprotected, BadAlg, WrongMac}
 use Rattle.cmpca.specs.declared.status.Status.{Status}
@@ -35,12 +36,15 @@ verdict_status WrongMac = Refused
 abbrev pub usage_line : List ℕ
 usage_line = line (codes "usage: cmpca verify SECRET | JOURNAL KEY COMMAND")
 
--- The words are `verify SECRET`, and the status and the text are those of the verdict on the input under the secret.
+-- The words are `verify SECRET`, and the status and the text are those of the verdict on the input under the secret: the
+-- verdict whose cause the input has, and no other.
 pub record TellsVerdict (words : List (List ℕ)) (input : List ℕ) (status : Status) (text : List ℕ) : Type 0 where
   pub secret : List ℕ
   pub asked : asked_secret words ≡ Some secret
   pub ends : status ≡ verdict_status (verdict_of secret input)
   pub says : text ≡ verdict_line (verdict_of secret input)
+  pub is_verdict : IsVerdict secret input (verdict_of secret input)
+  pub sole_verdict : (v : Verdict) → IsVerdict secret input v → v ≡ verdict_of secret input
 
 -- The text that a run writes which ends with this status, for its words and its input, where each write succeeds. A
 -- fault of reading and want of memory come besides, and the words are of a form then.

@@ -2,13 +2,31 @@
 ghost use Rattle.std.specs.Prelude.{◌≡◌, ◌≤◌, ◌++◌, Some, length};
 ghost use Rattle.cmp_frame.specs.Frame.{framed_of, message_limit};
 ghost use Rattle.cmpca.specs.Verdict.{verdict_of, verdict_of_frame, verdict_of_mac};
+ghost use Rattle.cmpca.specs.Causes.{IsVerdict, VerdictIsCaused};
 
 use crate::verdict::Verdict;
 use cmp_frame::{Frame, has_later_form, part_front, read_frame};
+use frame_grammar::frame_is_spelled;
 use pbmac::{MacParams, mac_ok_over, read_params};
+
+/// A verdict is that on a message exactly where the message has its cause, by the spelling of a message.
+pub fn verdict_is_caused()
+    ensures { VerdictIsCaused }
+{
+    frame_is_spelled();
+}
 
 /// The verdict on a message under a secret. It takes no memory.
 pub fn check(secret: &[u8], input: &[u8]) -> Verdict
+    ensures told { result ≡ verdict_of secret.now input.now }
+    ensures caused { IsVerdict secret.now input.now result }
+{
+    verdict_is_caused();
+    check_message(secret, input)
+}
+
+/// The verdict on a message, as its octets are read.
+fn check_message(secret: &[u8], input: &[u8]) -> Verdict
     ensures { result ≡ verdict_of secret.now input.now }
 {
     if has_later_form(input) {

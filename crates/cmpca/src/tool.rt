@@ -4,7 +4,7 @@ ghost use Rattle.cmp_ports.specs.Faults.{Rose};
 ghost use Rattle.cmpca.specs.Words.{asked_secret};
 ghost use Rattle.cmpca.specs.Reply.{Ran, Wrote, line};
 
-use crate::check::check;
+use crate::check::{check, verdict_is_caused};
 use crate::status::Status;
 use crate::words::read_words;
 use cmp_frame::MESSAGE_LIMIT;
@@ -60,6 +60,7 @@ pub fn run_tool<S: Source, W: Sink>(
     };
     match read_up_to(alloc, input, MESSAGE_LIMIT) {
         Ok(octets) => {
+            verdict_is_caused();
             let verdict = check(secret.as_slice(), octets.as_slice());
             finish(out, verdict.line(), verdict.status())
         }

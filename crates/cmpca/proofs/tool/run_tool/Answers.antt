@@ -8,9 +8,9 @@ returns-in_default-clause-ran g c = ran_usage _ _ _ _ _ (sym c.read_words.ensure
 
 pub returns-in-Ok-clause-ran : goal.returns-in-Ok-clause-ran
 returns-in-Ok-clause-ran g c =
-    ran_verdict _ _ _ _ _ _ _ _ _ c.check-verdict.result (sym c.read_words.ensures ∙ c.in-Some.is)
+    ran_verdict c.verdict_is_caused.ensures _ _ _ _ _ _ _ _ _ c.check-verdict.result (sym c.read_words.ensures ∙ c.in-Some.is)
     (rw c.as_slice-in-Ok.ensures.value c.in-Ok.ensures.octets)
-    (rw c.as_slice.ensures.value at c.check-verdict.ensures) c.status.ensures c.line.ensures c.finish-in-Ok.ensures.wrote
+    (rw c.as_slice.ensures.value at c.check-verdict.ensures.told) c.status.ensures c.line.ensures c.finish-in-Ok.ensures.wrote
 
 pub returns-in-Err-Fault-clause-ran : goal.returns-in-Err-Fault-clause-ran
 returns-in-Err-Fault-clause-ran g c = ran_read_fault _ _ _ _ _ _ (sym c.read_words.ensures ∙ c.in-Some.is) c.finish-in-Err-Fault.ensures.wrote
