@@ -1,0 +1,5 @@
+use Rattle.pbmac_grammar.proofs.ParamsLemmas.{params_are_spelled}
+use Rattle.pbmac_grammar.proofs.laws.params_are_spelled.Goals as goal
+
+pub returns : goal.returns
+returns c = params_are_spelled
