@@ -14,11 +14,11 @@ either : (a b : Bool) → IsTrue (a || b) → IsTrue a ⊎ IsTrue b
 either true b h = inl refl
 either false b h = inr h
 
-left_or : (a b : Bool) → IsTrue a → IsTrue (a || b)
+pub left_or : (a b : Bool) → IsTrue a → IsTrue (a || b)
 left_or true b h = refl
 left_or false b h = absurd (false_true h)
 
-right_or : (a b : Bool) → IsTrue b → IsTrue (a || b)
+pub right_or : (a b : Bool) → IsTrue b → IsTrue (a || b)
 right_or true b h = refl
 right_or false b h = h
 

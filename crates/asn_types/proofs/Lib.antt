@@ -7,4 +7,5 @@ pub mod NameLemmas
 pub mod OptionalLemmas
 pub mod ReadLemmas
 pub mod RowLemmas
+pub mod TemplateLemmas
 pub mod ValueLemmas

@@ -5,4 +5,5 @@ pub mod Key
 pub mod Name
 pub mod Oids
 pub mod Rows
+pub mod Template
 pub mod Time

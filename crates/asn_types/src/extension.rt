@@ -117,7 +117,7 @@ fn are_extensions(content: &[u8]) -> bool
 
 /// Reads a row of extensions, not empty.
 #[tactic(auto, unfolding(crate::specs::Extension::is_extensions))]
-fn extensions_inside(content: &[u8]) -> Result<Extensions<'_>, BadForm>
+pub(crate) fn extensions_inside(content: &[u8]) -> Result<Extensions<'_>, BadForm>
     ensures exact { IsOk result ↔ IsTrue (is_extensions content.now) }
     ensures value { IfOk result (λ x. x.content.now ≡ content.now) }
 {

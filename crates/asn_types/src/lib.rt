@@ -11,6 +11,7 @@ mod name;
 mod oids;
 mod parts;
 mod spki;
+mod template;
 mod time;
 
 pub use algorithm::{AlgorithmId, read_alg, write_alg};
@@ -31,4 +32,5 @@ pub use oids::{
 };
 pub use parts::{any, oid_field, plain_bits};
 pub use spki::{Spki, read_spki, write_spki};
+pub use template::{Template, read_template};
 pub use time::read_time;

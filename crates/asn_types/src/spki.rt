@@ -24,7 +24,7 @@ ghost use Rattle.asn_types.specs.Key.{key_of};
 
 /// Reads a key and its algorithm.
 #[tactic(auto, unfolding(crate::specs::Key::key_at))]
-fn key_inside(content: &[u8]) -> Result<Spki<'_>, BadForm>
+pub(crate) fn key_inside(content: &[u8]) -> Result<Spki<'_>, BadForm>
     ensures exact { Gives key_of result (key_at content.now) }
     ensures whole { IfOk result (λ s. s.content.now ≡ content.now) }
 {
