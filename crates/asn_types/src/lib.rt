@@ -34,3 +34,6 @@ pub use parts::{any, oid_field, plain_bits};
 pub use spki::{Spki, read_spki, write_spki};
 pub use template::{Template, read_template};
 pub use time::read_time;
+
+#[cfg(test)]
+mod tests;
