@@ -1,11 +1,14 @@
+pub mod Coming
 pub mod Disk
 pub mod Faults
 pub mod Filled
+pub mod Lists
 pub mod MemDisk
 pub mod MemDiskLaws
 pub mod MemSink
 pub mod MemSource
 pub mod Moments
+pub mod Orders
 pub mod Replay
 pub mod ReplayLaws
 pub mod Schedule

@@ -3,13 +3,20 @@
 //! small lists of octets that every layer speaks of.
 #![tactic(auto)]
 
+mod clock;
 mod disk;
+mod entropy;
 mod faults;
 mod file_disk;
+mod list_clock;
+mod list_entropy;
+mod list_orders;
 mod mem_disk;
 mod mem_sink;
 mod mem_source;
 mod octets;
+mod order;
+mod orders;
 mod schedule;
 mod short;
 mod sink;
@@ -20,13 +27,20 @@ mod tests;
 mod text;
 mod whole;
 
+pub use clock::Clock;
 pub use disk::Disk;
+pub use entropy::Entropy;
 pub use faults::Failed;
 pub use file_disk::FileDisk;
+pub use list_clock::ListClock;
+pub use list_entropy::ListEntropy;
+pub use list_orders::ListOrders;
 pub use mem_disk::MemDisk;
 pub use mem_sink::MemSink;
 pub use mem_source::MemSource;
 pub use octets::Octets;
+pub use order::{Order, order_of_line};
+pub use orders::Orders;
 pub use short::Short;
 pub use sink::Sink;
 pub use source::Source;

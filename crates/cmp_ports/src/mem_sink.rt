@@ -1,5 +1,5 @@
 //! A sink in memory.
-ghost use Rattle.std.specs.Prelude.{◌≡◌, ◌<◌, [], length, IfOk, IsErr, IsTrue, false, Some};
+ghost use Rattle.std.specs.Prelude.{◌≡◌, ◌<◌, [], length, IfOk, IsErr, IsTrue, Some};
 ghost use Rattle.std.specs.Io.{WritesAtMost};
 ghost use Rattle.std.specs.Io.KnownBytes.{WriteAppends};
 
@@ -17,13 +17,14 @@ pub struct MemSink {
 }
 
 impl MemSink {
-    ghost use Rattle.cmp_ports.specs.MemSink.{written_of, faults_of, is_due};
+    ghost use Rattle.cmp_ports.specs.MemSink.{written_of, faults_of, listed_of, calls_of};
 
     /// Nothing is written yet, and no write fails but for want of memory.
     pub fn new(alloc: Global) -> MemSink
         ensures written { written_of result ≡ [] }
         ensures faults { faults_of result ≡ 0 }
-        ensures fails { is_due result ≡ false }
+        ensures fails { listed_of result ≡ [] }
+        ensures calls { calls_of result ≡ 0 }
     {
         MemSink {
             content: Vec::new(alloc),
@@ -35,6 +36,8 @@ impl MemSink {
     pub fn failing(alloc: Global, fails: Vec<u64>) -> MemSink
         ensures written { written_of result ≡ [] }
         ensures faults { faults_of result ≡ 0 }
+        ensures fails { listed_of result ≡ fails.items }
+        ensures calls { calls_of result ≡ 0 }
     {
         MemSink {
             content: Vec::new(alloc),
@@ -58,7 +61,8 @@ impl MemSink {
 }
 
 impl Sink for MemSink {
-    ghost use Rattle.cmp_ports.specs.MemSink.{written_of, faults_of, is_due};
+    ghost use Rattle.cmp_ports.specs.MemSink.{written_of, faults_of, listed_of, calls_of, is_due};
+    ghost use Rattle.cmp_ports.specs.Schedule.{counted};
     ghost use Rattle.cmp_ports.specs.Faults.{HasCause};
 
     ghost written = { λ s. Some (written_of s) };
@@ -72,6 +76,8 @@ impl Sink for MemSink {
         ensures bytes { WriteAppends (Some (written_of self.old)) (Some (written_of self.new)) result bytes.now }
         ensures cause { HasCause (faults_of self.old) (faults_of self.new) result }
         ensures fails { IsTrue (is_due self.old) → IsErr result }
+        ensures listed { listed_of self.new ≡ listed_of self.old }
+        ensures calls { calls_of self.new ≡ counted (calls_of self.old) }
         ensures whole { IfOk result (λ n. n ≡ length bytes.now) }
     {
         self.schedule.call()?;

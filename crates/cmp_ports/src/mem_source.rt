@@ -1,5 +1,5 @@
 //! A source in memory.
-ghost use Rattle.std.specs.Prelude.{◌≡◌, ◌↔◌, ◌≤◌, min, length, IfOk, IsErr, IsTrue, false, Some, vec_len};
+ghost use Rattle.std.specs.Prelude.{◌≡◌, ◌↔◌, ◌≤◌, min, length, IfOk, IsErr, IsTrue, [], Some, vec_len};
 ghost use Rattle.std.specs.Io.{ReadsAtMost};
 ghost use Rattle.std.specs.Io.KnownBytes.{ReadConsumes};
 
@@ -17,13 +17,14 @@ pub struct MemSource {
 }
 
 impl MemSource {
-    ghost use Rattle.cmp_ports.specs.MemSource.{left_of, faults_of, is_due};
+    ghost use Rattle.cmp_ports.specs.MemSource.{left_of, faults_of, listed_of, calls_of};
 
     /// The content, of which no read fails.
     pub fn new(content: Vec<u8>) -> MemSource
         ensures left { left_of result ≡ content.items }
         ensures faults { faults_of result ≡ 0 }
-        ensures fails { is_due result ≡ false }
+        ensures fails { listed_of result ≡ [] }
+        ensures calls { calls_of result ≡ 0 }
     {
         MemSource {
             content,
@@ -36,6 +37,8 @@ impl MemSource {
     pub fn failing(content: Vec<u8>, fails: Vec<u64>) -> MemSource
         ensures left { left_of result ≡ content.items }
         ensures faults { faults_of result ≡ 0 }
+        ensures fails { listed_of result ≡ fails.items }
+        ensures calls { calls_of result ≡ 0 }
     {
         MemSource {
             content,
@@ -61,7 +64,8 @@ impl MemSource {
 }
 
 impl Source for MemSource {
-    ghost use Rattle.cmp_ports.specs.MemSource.{left_of, faults_of, is_due};
+    ghost use Rattle.cmp_ports.specs.MemSource.{left_of, faults_of, listed_of, calls_of, is_due};
+    ghost use Rattle.cmp_ports.specs.Schedule.{counted};
     ghost use Rattle.cmp_ports.specs.Faults.{HasCause};
 
     ghost left = { λ s. Some (left_of s) };
@@ -74,6 +78,8 @@ impl Source for MemSource {
         ensures bytes { ReadConsumes (Some (left_of self.old)) (Some (left_of self.new)) result into.new }
         ensures cause { HasCause (faults_of self.old) (faults_of self.new) result }
         ensures fails { IsErr result ↔ IsTrue (is_due self.old) }
+        ensures listed { listed_of self.new ≡ listed_of self.old }
+        ensures calls { calls_of self.new ≡ counted (calls_of self.old) }
         ensures whole { IfOk result (λ n. n ≡ min (length into.old) (length (left_of self.old))) }
     {
         self.schedule.call()?;

@@ -1,7 +1,7 @@
 //! Which calls of an object in memory fail.
-ghost use Rattle.std.specs.Prelude.{◌≡◌, ◌↔◌, ◌≤◌, None, Some, IsErr, IsTrue};
+ghost use Rattle.std.specs.Prelude.{◌≡◌, ◌↔◌, ◌≤◌, [], IsErr, IsTrue};
 ghost use Rattle.cmp_ports.specs.Faults.{HasCause, Rose};
-ghost use Rattle.cmp_ports.specs.Schedule.{is_due, is_listed, counted};
+ghost use Rattle.cmp_ports.specs.Schedule.{is_due, is_among, listed_of, counted};
 
 use crate::faults::Failed;
 
@@ -17,7 +17,7 @@ pub struct Schedule {
 impl Schedule {
     /// No call fails.
     pub fn none() -> Schedule
-        ensures fails { result.fails ≡ None }
+        ensures fails { listed_of result ≡ [] }
         ensures calls { result.calls ≡ 0 }
         ensures faults { result.faults ≡ 0 }
     {
@@ -30,7 +30,7 @@ impl Schedule {
 
     /// The calls with these numbers fail.
     pub fn of(fails: Vec<u64>) -> Schedule
-        ensures fails { result.fails ≡ Some fails }
+        ensures fails { listed_of result ≡ fails.items }
         ensures calls { result.calls ≡ 0 }
         ensures faults { result.faults ≡ 0 }
     {
@@ -46,7 +46,7 @@ impl Schedule {
         ensures due { IsErr result ↔ IsTrue (is_due self.old) }
         ensures cause { HasCause self.old.faults self.new.faults result }
         ensures calls { self.new.calls ≡ counted self.old.calls }
-        ensures fails { self.new.fails ≡ self.old.fails }
+        ensures fails { listed_of self.new ≡ listed_of self.old }
     {
         let number = self.calls.saturating_add(1);
         self.calls = number;
@@ -58,7 +58,7 @@ impl Schedule {
 
     /// Whether the call with this number is one that fails.
     fn lists(&self, number: u64) -> bool
-        ensures { result ≡ is_listed self.now.fails number }
+        ensures { result ≡ is_among (listed_of self.now) number }
     {
         match &self.fails {
             Some(fails) => fails.contains(&number),
@@ -71,7 +71,7 @@ impl Schedule {
         ensures rose { Rose self.old.faults self.new.faults }
         ensures later { self.old.faults ≤ self.new.faults }
         ensures calls { self.new.calls ≡ self.old.calls }
-        ensures fails { self.new.fails ≡ self.old.fails }
+        ensures fails { listed_of self.new ≡ listed_of self.old }
     {
         self.faults = self.faults.saturating_add(1);
         Failed
