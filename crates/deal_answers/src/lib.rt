@@ -1,0 +1,15 @@
+//! The answers of a history, computed by plain walks over the whole list. Each is the definition's of deal_model, and is what
+//! quicker tables are held against.
+#![tactic(auto)]
+
+mod keys;
+mod kinds;
+#[cfg(test)]
+mod tests;
+mod views;
+
+pub use keys::{is_lms_key, key_id, key_of, leaves_of, levels_of, ots_of, tree_of};
+pub use views::{
+    certificate_state, founding, is_dismissed, is_key_taken, is_known, is_listed, is_told,
+    leaves_used, transaction_state,
+};
