@@ -1,1 +1,3 @@
 pub mod Finds
+pub mod Lms
+pub mod Timely

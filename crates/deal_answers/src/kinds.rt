@@ -1,7 +1,7 @@
 //! Tests of one change.
 ghost use Rattle.std.specs.Prelude.{◌≡◌, option_copied};
 ghost use Rattle.std.specs.List.{list_any};
-ghost use Rattle.deal_model.specs.Views.{same, is_grant, is_grant_for, is_hold_for, is_release_for, is_deny_for, is_turned_for, is_settled_for, is_revoke_for, is_lapse_for, is_grant_of, is_revoke_of, has_digest, has_leaf, same_kind, is_entry, lists, is_listed_as, is_dismiss_of, takes_key};
+ghost use Rattle.deal_model.specs.Views.{same, is_grant, is_grant_for, is_hold_for, is_release_for, is_deny_for, is_turned_for, is_settled_for, is_revoke_for, is_lapse_for, is_grant_of, is_revoke_of, has_digest, has_leaf, is_stamped_for, same_kind, other_kind, is_entry, lists, is_listed_as, is_dismiss_of, takes_key};
 ghost use Rattle.deal_model.specs.Keys.{key_id};
 
 use crate::keys::{key_id, key_of};
@@ -130,6 +130,15 @@ pub(crate) fn has_leaf(c: &Change) -> bool
     }
 }
 
+pub(crate) fn is_stamped_for(tid: &[u8], c: &Change) -> bool
+    ensures { result ≡ is_stamped_for tid.now c.now }
+{
+    match c.stamp() {
+        Some(stamp) => same(stamp.tid.as_slice(), tid),
+        None => false,
+    }
+}
+
 pub(crate) fn same_kind(a: Kind, b: Kind) -> bool
     ensures { result ≡ same_kind a b }
 {
@@ -138,6 +147,15 @@ pub(crate) fn same_kind(a: Kind, b: Kind) -> bool
         (Kind::Lms, Kind::Lms) => true,
         (Kind::Mac, Kind::Lms) => false,
         (Kind::Lms, Kind::Mac) => false,
+    }
+}
+
+pub(crate) fn other_kind(kind: Kind) -> Kind
+    ensures { result ≡ other_kind kind }
+{
+    match kind {
+        Kind::Mac => Kind::Lms,
+        Kind::Lms => Kind::Mac,
     }
 }
 

@@ -4,11 +4,15 @@
 
 mod keys;
 mod kinds;
-#[cfg(test)]
-mod tests;
+mod nonces;
+mod standings;
+mod table;
 mod views;
 
 pub use keys::{is_lms_key, key_id, key_of, leaves_of, levels_of, ots_of, tree_of};
+pub use nonces::last_nonce;
+pub use standings::{not_after, owner_of, standing_of, standing_of_who};
+pub use table::Table;
 pub use views::{
     certificate_state, founding, is_dismissed, is_key_taken, is_known, is_listed, is_told,
     leaves_used, transaction_state,

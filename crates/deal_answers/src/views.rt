@@ -40,7 +40,7 @@ fn grant_for<'a>(h: &'a [Change], tid: &[u8]) -> Option<&'a Change>
     h.iter().find(|c| is_grant_for(tid, c))
 }
 
-fn grant_of(h: &[Change], serial: u64) -> Option<&Change>
+pub(crate) fn grant_of(h: &[Change], serial: u64) -> Option<&Change>
     ensures { option_copied result ≡ find (is_grant_of serial) h.now }
 {
     h.iter().find(|c| is_grant_of(serial, c))

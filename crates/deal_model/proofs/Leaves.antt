@@ -1,6 +1,5 @@
 -- Leaves, serial numbers and Grants of legal histories.
-use Rattle.std.proofs.Common.{◌≡◌, ◌≢◌, ℕ, zero, suc, ◌+◌, ◌<◌, ◌≤◌, Bool, true, false, cond, eqb, List, [], ◌∷◌, ◌++◌, length, take, Option, Some, None, refl, sym, ap, subst, ◌∙◌, append_assoc, arith, inl, inr, ◌⊎◌, IsTrue}
-use Rattle.std.specs.Prelude.{IfSome}
+use Rattle.std.proofs.Common.{◌≡◌, ℕ, zero, suc, ◌+◌, ◌<◌, ◌≤◌, Bool, true, false, cond, List, [], ◌∷◌, ◌++◌, take, Option, Some, None, refl, sym, ap, subst, ◌∙◌, arith, inl, inr, ◌⊎◌}
 use Rattle.std.specs.List.{slice_get, find, count_by, sum_by}
 use Rattle.std.specs.Str.{bytes_eq}
 use Rattle.std.proofs.lemmas.Bool.{cases_lt}
@@ -20,8 +19,8 @@ use Rattle.deal_model.specs.declared.states.Key.TheVariants.{Issue, Reply}
 use Rattle.deal_model.specs.declared.states.CertificateState.{CertificateState}
 use Rattle.deal_model.specs.declared.states.CertificateState.TheVariants as certificates
 use Rattle.deal_model.specs.declared.states.DealState.{DealState}
-use Rattle.deal_model.specs.Views.{History, same, is_empty, is_found, is_grant, is_grant_for, has_leaf, leaves_used, leaves_in, reply_leaves, stamp_leaves, HasLeaf, TakesLeaf, certificate_state, open_or_closed, after_grant, ungranted_state, transaction_state}
-use Rattle.deal_model.specs.Rules.{Allowed, Legal, StampHolds, GrantComes, reply_leaf}
+use Rattle.deal_model.specs.Views.{History, same, is_empty, is_grant, is_grant_for, has_leaf, leaves_used, leaves_in, reply_leaves, HasLeaf, TakesLeaf, certificate_state, open_or_closed, after_grant, ungranted_state, transaction_state}
+use Rattle.deal_model.specs.Rules.{Allowed, Legal, GrantComes, reply_leaf}
 use Rattle.deal_model.specs.Laws.{EachLeafOnce, SerialsDiffer, OneGrantEach}
 use Rattle.deal_model.proofs.Histories.{allowed_at, cut_behind}
 

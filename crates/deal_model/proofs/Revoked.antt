@@ -1,11 +1,9 @@
 -- A certificate that is revoked stays so.
-use Rattle.std.proofs.Common.{◌≡◌, ◌≢◌, ℕ, zero, suc, ◌+◌, ◌<◌, ◌≤◌, Bool, true, false, cond, eqb, ◌||◌, List, [], ◌∷◌, ◌++◌, length, take, Option, Some, None, refl, sym, ap, subst, ◌∙◌, append_assoc, arith}
+use Rattle.std.proofs.Common.{◌≡◌, ◌≢◌, ℕ, suc, ◌+◌, Bool, true, false, cond, eqb, ◌||◌, List, [], ◌∷◌, ◌++◌, length, Option, Some, None, refl, sym, ap, subst, ◌∙◌, append_assoc}
 use Rattle.std.specs.List.{slice_get, find, list_any}
-use Rattle.std.specs.Option.{option_or}
 use Rattle.std.specs.Prelude.{option_and_then}
 use Rattle.std.proofs.lemmas.Bool.{eqb-true}
 use Rattle.std.proofs.lemmas.List.{append-nil, take_at}
-use Rattle.std.proofs.lemmas.List.Folds.{find-append}
 use Rattle.std.proofs.lemmas.Option.{same_Some, none-some}
 use Rattle.std.proofs.lemmas.Slice.Eq.{bytes_eq-Decides}
 use Rattle.deal_changes.specs.declared.change.Stamp.{Stamp}
@@ -16,11 +14,10 @@ use Rattle.deal_changes.specs.declared.change.Change.TheVariants.{Found, Enlist,
 use Rattle.deal_model.specs.declared.states.Reason.{Reason}
 use Rattle.deal_model.specs.declared.states.CertificateState.{CertificateState}
 use Rattle.deal_model.specs.declared.states.CertificateState.TheVariants.{Open, Confirmed, Revoked}
-use Rattle.deal_model.specs.declared.states.DealState.{DealState}
-use Rattle.deal_model.specs.Views.{History, same, settings_of, is_grant_for, is_grant_of, is_revoke_of, is_settled_for, is_lapse_for, at_first, after_lapse, after_settled, after_revoke, state_of_grant, state_by_change, certificate_state, open_or_closed, after_grant, ungranted_state, transaction_state}
+use Rattle.deal_model.specs.Views.{History, same, settings_of, is_grant_for, is_grant_of, is_revoke_of, is_settled_for, is_lapse_for, at_first, after_lapse, after_settled, after_revoke, state_of_grant, state_by_change, certificate_state, open_or_closed, after_grant, transaction_state}
 use Rattle.deal_model.specs.Rules.{Allowed, AllowedFrom, Legal, IsOpenPast}
 use Rattle.deal_model.specs.Laws.{StaysRevoked}
-use Rattle.deal_model.proofs.Histories.{allowed_at, from_take, legal_more}
+use Rattle.deal_model.proofs.Histories.{allowed_at, from_take}
 use Rattle.deal_model.proofs.Leaves.{grants, found_passes, none_passes, same_refl}
 
 -- ---- what is found

@@ -1,5 +1,5 @@
 -- Which change may come next, and which histories are legal.
-use Rattle.std.specs.Prelude.{◌≡◌, ◌≢◌, ℕ, ◌+◌, ◌-◌, ◌*◌, ◌/◌, ◌%◌, ◌^◌, ◌<◌, ◌≤◌, Bool, true, false, not, ◌&&◌, ◌||◌, ◌==◌, List, [], ◌∷◌, ◌++◌, length, drop, Option, Some, None, IsSome, IfSome, IsTrue, find, sum_by, if◌then◌else◌, slice_get}
+use Rattle.std.specs.Prelude.{◌≡◌, ◌≢◌, ℕ, ◌+◌, ◌/◌, ◌%◌, ◌^◌, ◌<◌, ◌≤◌, Bool, true, false, not, ◌&&◌, ◌||◌, ◌==◌, List, [], ◌∷◌, ◌++◌, length, drop, Option, Some, None, IsSome, IfSome, IsTrue, find, sum_by, if◌then◌else◌}
 use Rattle.std.specs.List.{list_any, list_all}
 use Rattle.std.specs.Str.{is_utf8}
 use Rattle.deal_changes.specs.declared.change.Kind.{Kind}
@@ -19,7 +19,7 @@ use Rattle.deal_changes.specs.Times.{time_of_change}
 use Rattle.deal_model.specs.declared.states.Key.TheVariants.{Issue, Reply}
 use Rattle.deal_model.specs.declared.states.CertificateState.TheVariants as certificates
 use Rattle.deal_model.specs.declared.states.DealState.{DealState}
-use Rattle.deal_model.specs.declared.states.DealState.TheVariants.{Unused, Held, Released, Denied, Open, Closed, Other}
+use Rattle.deal_model.specs.declared.states.DealState.TheVariants.{Unused, Held, Released, Denied, Open}
 use Rattle.deal_model.specs.declared.states.Standing.{Standing}
 use Rattle.deal_model.specs.declared.states.Standing.TheVariants.{Unknown, OtherKind, Barred, Good}
 use Rattle.deal_model.specs.Keys.{levels_of, tree_of, ots_of, leaves_of, key_id, key_of}

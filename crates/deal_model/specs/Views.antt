@@ -1,6 +1,6 @@
 -- What a history answers. A history is a list of changes, the first one first. Each answer is a filter or a first match over
 -- the whole list.
-use Rattle.std.specs.Prelude.{◌≡◌, ℕ, ◌+◌, ◌-◌, ◌*◌, ◌≤◌, Bool, true, false, not, ◌&&◌, ◌||◌, ◌==◌, nat_le, List, [], ◌∷◌, ◌++◌, length, take, reverse, Option, Some, None, is_some, unwrap_or, option_map, option_and_then, find, count_by, if◌then◌else◌, ◌⊎◌, IsTrue}
+use Rattle.std.specs.Prelude.{◌≡◌, ℕ, ◌+◌, ◌-◌, ◌*◌, ◌≤◌, Bool, true, false, not, ◌&&◌, ◌||◌, ◌==◌, nat_le, List, [], ◌∷◌, take, reverse, Option, Some, None, is_some, unwrap_or, option_map, option_and_then, find, count_by, if◌then◌else◌, ◌⊎◌}
 use Rattle.std.specs.List.{list_any, AllByRecursion}
 use Rattle.std.specs.Str.{bytes_eq}
 use Rattle.deal_changes.specs.declared.change.Kind.{Kind}
@@ -12,11 +12,10 @@ use Rattle.deal_changes.specs.declared.change.Stamp.{Stamp}
 use Rattle.deal_changes.specs.declared.change.Wish.{Wish}
 use Rattle.deal_changes.specs.declared.change.Settings.{Settings}
 use Rattle.deal_changes.specs.declared.change.Change.{Change}
-use Rattle.deal_changes.specs.declared.change.Change.TheVariants.{Found, Enlist, Dismiss, Grant, Hold, Release, Deny, Turned, Polled, Settled, Revoke, Lapse}
+use Rattle.deal_changes.specs.declared.change.Change.TheVariants.{Found, Enlist, Dismiss, Grant, Hold, Release, Deny, Turned, Settled, Revoke, Lapse}
 use Rattle.deal_changes.specs.Times.{time_of_change, stamp_of}
 use Rattle.deal_model.specs.declared.states.Key.{Key}
 use Rattle.deal_model.specs.declared.states.Key.TheVariants.{Issue, Reply}
-use Rattle.deal_model.specs.declared.states.Reason.{Reason}
 use Rattle.deal_model.specs.declared.states.Reason.TheVariants.{Rejected, Timeout, Asked}
 use Rattle.deal_model.specs.declared.states.CertificateState.{CertificateState}
 use Rattle.deal_model.specs.declared.states.CertificateState.TheVariants.{Open, Confirmed, Revoked}
@@ -291,10 +290,14 @@ TakesLeaf c key leaf = HasLeaf (leaves_in c) key leaf
 abbrev pub owner_of_credential : Credential → Owner
 owner_of_credential c = record { who = Listed c.kind c.kid; key = c.material; rights = c.rights }
 
--- to whom a change gives the credential with this kind and identifier; a certificate has the right to enrol alone
+-- to whom a certificate gives the credential of its key, where that is this one: to itself, with the right to enrol alone
+abbrev pub granted_owner : List ℕ → List ℕ → ℕ → Option Owner
+granted_owner kid spki serial = if is_lms_key spki && same (key_id (key_of spki)) kid then Some (record { who = Cert serial; key = key_of spki; rights = 1 }) else None
+
+-- to whom a change gives the credential with this kind and identifier
 abbrev pub owner_in : Kind → List ℕ → Change → Option Owner
 owner_in kind kid (Enlist time list) = option_map owner_of_credential (find (is_entry kind kid) list)
-owner_in Lms kid (Grant s b w serial leaf) = if is_lms_key w.spki && same (key_id (key_of w.spki)) kid then Some (record { who = Cert serial; key = key_of w.spki; rights = 1 }) else None
+owner_in Lms kid (Grant s b w serial leaf) = granted_owner kid w.spki serial
 owner_in kind kid _ = None
 
 abbrev pub has_owner : Kind → List ℕ → Change → Bool
@@ -310,8 +313,12 @@ is_confirmed (Some (Open deadline)) = false
 is_confirmed (Some (Revoked reason)) = false
 is_confirmed None = false
 
+-- whether a time is behind the last second of a certificate that was granted then
+abbrev pub is_past : History → ℕ → ℕ → Bool
+is_past h t granted = not (nat_le t (not_after h granted))
+
 abbrev pub is_over : History → ℕ → Option Change → Bool
-is_over h t (Some (Grant s b w serial leaf)) = not (nat_le t (not_after h s.time))
+is_over h t (Some (Grant s b w serial leaf)) = is_past h t s.time
 is_over h t _ = true
 
 -- a credential that was dismissed; a certificate that is not confirmed, or over at this time
@@ -335,3 +342,19 @@ standing_of_grant h t _ = Unknown
 abbrev pub standing_of_who : History → Who → ℕ → Standing
 standing_of_who h (Listed kind kid) t = standing_of h kind kid t
 standing_of_who h (Cert serial) t = standing_of_grant h t (find (is_grant_of serial) h)
+
+-- ---- all answers together
+
+-- what a history answers, each by what is asked
+pub record Table : Type 0 where
+  pub standing : Kind → List ℕ → ℕ → Standing
+  pub sender : Who → ℕ → Standing
+  pub certificate : ℕ → Option CertificateState
+  pub transaction : List ℕ → DealState
+  pub told : List ℕ → Bool
+  pub used : Key → ℕ
+  pub nonce : List ℕ → Option (List ℕ)
+  pub taken : List ℕ → Bool
+
+abbrev pub table_of : History → Table
+table_of h = record { standing = standing_of h; sender = standing_of_who h; certificate = certificate_state h; transaction = transaction_state h; told = is_told h; used = leaves_used h; nonce = last_nonce h; taken = is_key_taken h }

@@ -4,9 +4,11 @@
 //! where the table of rules says so. Every layer above keeps these answers in another form, and is held against this one.
 #![tactic(auto)]
 
+mod asking;
 mod laws;
 mod states;
 
+pub use asking::{Ask, Brief, Checked, Echo, Job};
 pub use deal_changes::{
     Body4, Change, ChangeFault, Credential, CredentialList, Kind, PublicKey, Settings, Stamp, Who,
     Wish, common_name, is_ca_name, is_spki, is_text, public_key, read_change, write_change,

@@ -1,0 +1,8 @@
+-- Times that a clock may say.
+use Rattle.std.specs.Prelude.{Bool, nat_le}
+use Rattle.deal_changes.specs.declared.change.Change.{Change}
+use Rattle.deal_changes.specs.Times.{time_of_change}
+
+-- whether a change is not later than any clock may say
+abbrev pub is_timely : Change → Bool
+is_timely c = nat_le (time_of_change c) 250000000000
