@@ -1,0 +1,22 @@
+//! The compression of four blocks.
+ghost use Rattle.std.specs.Prelude.{◌≡◌, ℕ, ◌<◌, List};
+ghost use Rattle.sha2.specs.Sha256.{compress, first_words};
+ghost use Rattle.sha_lanes.specs.Lanes.{lane};
+
+use crate::rounds::{add_state, first_sixteen_steps, sixteen_steps};
+use std::simd::u32x4;
+
+/// Compresses a block in each lane into the hash value in that lane (FIPS 180-4, 6.2.2).
+/// A hash value is 8 words, and a block is given by its 16 words, high octet first.
+pub fn compress4(state: [u32x4; 8], words: &[u32x4; 16]) -> [u32x4; 8]
+    ensures { (i : ℕ) (b : List ℕ) → i < 4 → lane i words.now ≡ first_words b 16
+        → lane i result ≡ compress (lane i state) b }
+{
+    let mut window = *words;
+    let mut v = first_sixteen_steps(&window, state);
+    'schedule: for turn in 1..4 {
+        let next = sixteen_steps(&mut window, v, turn);
+        v = next;
+    }
+    add_state(state, v)
+}

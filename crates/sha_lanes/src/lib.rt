@@ -1,0 +1,12 @@
+//! The compression of SHA-256 (FIPS 180-4, 6.2.2) on four independent blocks at once, one in each lane of 128-bit vectors.
+//!
+//! It is for many short hashes that do not wait for each other. A single message is hashed by the crate sha2, whose own
+//! words say here what each lane has.
+#![tactic(auto)]
+
+pub use compress::compress4;
+
+mod compress;
+mod constants;
+mod rounds;
+mod words;
