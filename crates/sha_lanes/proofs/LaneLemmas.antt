@@ -1,8 +1,7 @@
 -- Operations on four lanes, lane by lane.
-use Rattle.std.proofs.Common.{◌≡◌, ℕ, zero, suc, ◌<◌, ◌+◌, ◌-◌, ◌*◌, ◌/◌, ◌%◌, ◌^◌, List, [], ◌∷◌, map, length, slice_index, bit_and, bit_or, bit_xor, arith, refl}
-use Rattle.std.specs.Int.{w32, bit_not, rotate_right}
+use Rattle.std.proofs.Common.{◌≡◌, ℕ, zero, suc, ◌<◌, ◌-◌, ◌*◌, ◌/◌, ◌%◌, ◌^◌, List, [], ◌∷◌, length, slice_index, bit_or, arith, refl}
+use Rattle.std.specs.Int.{w32, rotate_right}
 use Rattle.std.specs.Simd.Lanes.{zip2}
-use Rattle.sha2.specs.Sha256.{ch, maj}
 
 -- what holds of each of the four lanes
 pub below_four : (P : ℕ → Type 0) → P 0 → P 1 → P 2 → P 3 → (i : ℕ) → i < 4 → P i

@@ -1,3 +1,6 @@
 mod LaneLemmas
 mod Lanes
+mod LoadedWords
 mod MajLemmas
+mod OneBlock
+mod Padded

@@ -13,10 +13,9 @@ pub fn compress4(state: [u32x4; 8], words: &[u32x4; 16]) -> [u32x4; 8]
         → lane i result ≡ compress (lane i state) b }
 {
     let mut window = *words;
-    let mut v = first_sixteen_steps(&window, state);
-    'schedule: for turn in 1..4 {
-        let next = sixteen_steps(&mut window, v, turn);
-        v = next;
-    }
+    let v = first_sixteen_steps(&window, state);
+    let v = sixteen_steps(&mut window, v, 1);
+    let v = sixteen_steps(&mut window, v, 2);
+    let v = sixteen_steps(&mut window, v, 3);
     add_state(state, v)
 }

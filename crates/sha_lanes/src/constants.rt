@@ -1,6 +1,6 @@
-//! The constants of the rounds of SHA-256 (FIPS 180-4, 4.2.2).
+//! The constants of SHA-256.
 
-// K 0, .., K 63
+// K 0, .., K 63 (FIPS 180-4, 4.2.2)
 pub(crate) const ROUND_CONSTANTS: [u32; 64] = [
     0x428a_2f98,
     0x7137_4491,
@@ -66,4 +66,16 @@ pub(crate) const ROUND_CONSTANTS: [u32; 64] = [
     0xa450_6ceb,
     0xbef9_a3f7,
     0xc671_78f2,
+];
+
+// The initial hash value (FIPS 180-4, 5.3.3)
+pub(crate) const INITIAL_HASH: [u32; 8] = [
+    0x6a09_e667,
+    0xbb67_ae85,
+    0x3c6e_f372,
+    0xa54f_f53a,
+    0x510e_527f,
+    0x9b05_688c,
+    0x1f83_d9ab,
+    0x5be0_cd19,
 ];

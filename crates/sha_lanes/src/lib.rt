@@ -4,9 +4,13 @@
 //! words say here what each lane has.
 #![tactic(auto)]
 
+pub use blocks::{digest_blocks, hash4, one_block, value_octets, value_words};
 pub use compress::compress4;
 
+mod blocks;
 mod compress;
 mod constants;
 mod rounds;
+#[cfg(test)]
+mod tests;
 mod words;

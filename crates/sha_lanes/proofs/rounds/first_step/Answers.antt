@@ -1,4 +1,4 @@
-use Rattle.std.proofs.Common.{refl, sym, ap, List, ℕ, slice_index, slice_index_or, [], ◌∙◌}
+use Rattle.std.proofs.Common.{refl, sym}
 use Rattle.sha2.proofs.Schedule256.{rounds_first}
 use Rattle.sha_lanes.specs.Lanes.{lane}
 use Rattle.sha_lanes.proofs.Lanes.{lane_read}

@@ -1,6 +1,5 @@
 use Rattle.std.proofs.Common.{bit_and, bit_xor, slice_index, refl, ◌∙◌}
 use Rattle.std.specs.Simd.Lanes.{zip2}
-use Rattle.sha2.specs.Sha256.{maj}
 use Rattle.sha_lanes.proofs.MajLemmas.{maj_short}
 use Rattle.sha_lanes.proofs.LaneLemmas.{by_lanes3}
 use Rattle.sha_lanes.proofs.words.maj.Goals as goal
