@@ -1,6 +1,7 @@
-mod LaneLemmas
-mod Lanes
+pub mod LaneLemmas
+pub mod Lanes
 mod LoadedWords
 mod MajLemmas
 mod OneBlock
 mod Padded
+mod PartWords

@@ -69,16 +69,3 @@ digest_first_words x m (suc n) le long small =
     ∙ four_from a x (omega arith) in
     let next : 4 * suc n ≡ a + 4 = omega arith in
     ap₂ (λ (p q : List ℕ). p ++ q) before four ∙ sym (take-add a 4 x) ∙ ap (λ (k : ℕ). take k x) (sym next)
-
-pub eight_written : (x : List ℕ) → length x ≡ 8
-    → slice_index x 0 ∷ slice_index x 1 ∷ slice_index x 2 ∷ slice_index x 3 ∷ slice_index x 4 ∷ slice_index x 5 ∷ slice_index x 6 ∷ slice_index x 7 ∷ [] ≡ x
-eight_written (a ∷ b ∷ c ∷ d ∷ e ∷ f ∷ g ∷ h ∷ []) size = refl
-eight_written [] size = absurd (omega arith)
-eight_written (a ∷ []) size = absurd (omega arith)
-eight_written (a ∷ b ∷ []) size = absurd (omega arith)
-eight_written (a ∷ b ∷ c ∷ []) size = absurd (omega arith)
-eight_written (a ∷ b ∷ c ∷ d ∷ []) size = absurd (omega arith)
-eight_written (a ∷ b ∷ c ∷ d ∷ e ∷ []) size = absurd (omega arith)
-eight_written (a ∷ b ∷ c ∷ d ∷ e ∷ f ∷ []) size = absurd (omega arith)
-eight_written (a ∷ b ∷ c ∷ d ∷ e ∷ f ∷ g ∷ []) size = absurd (omega arith)
-eight_written (a ∷ b ∷ c ∷ d ∷ e ∷ f ∷ g ∷ h ∷ i ∷ x) size = absurd (omega arith)

@@ -54,7 +54,7 @@ fn padded(message: &[u8; 55]) -> [u8; 64]
 const PADDING: [u8; 9] = [0x80, 0, 0, 0, 0, 0, 0, 0x01, 0xb8];
 
 // The word at octet `at`.
-fn word(octets: &[u8], at: usize) -> u32
+pub(crate) fn word(octets: &[u8], at: usize) -> u32
     requires { at + 4 ≤ length octets.now }
     ensures { result ≡ word_at octets.now at }
 {

@@ -6,10 +6,12 @@
 
 pub use blocks::{digest_blocks, hash4, one_block, value_octets, value_words};
 pub use compress::compress4;
+pub use parts::{choose, digest_parts, front_words};
 
 mod blocks;
 mod compress;
 mod constants;
+mod parts;
 mod rounds;
 #[cfg(test)]
 mod tests;
