@@ -12,9 +12,10 @@ APPENDS = 500
 PAYLOAD = bytes(range(250)) * 2
 
 
-def append_with_two_syncs(path: str) -> None:
+def append_with_two_syncs(path: str) -> int:
     file = os.open(path, os.O_RDWR | os.O_CREAT | os.O_TRUNC, 0o600)
     gate = 8
+    start = time.perf_counter_ns()
     for _ in range(APPENDS):
         record = len(PAYLOAD).to_bytes(4, "big") + PAYLOAD + b"\x00"
         os.pwrite(file, record, gate + 1)
@@ -22,10 +23,12 @@ def append_with_two_syncs(path: str) -> None:
         os.pwrite(file, b"\x01", gate)
         os.fdatasync(file)
         gate += len(record)
+    nanos = time.perf_counter_ns() - start
     os.close(file)
+    return nanos
 
 
-def commit_with_sqlite(path: str) -> None:
+def commit_with_sqlite(path: str) -> int:
     import sqlite3
 
     for suffix in ("", "-wal", "-shm"):
@@ -35,16 +38,17 @@ def commit_with_sqlite(path: str) -> None:
     base.execute("PRAGMA journal_mode=WAL")
     base.execute("PRAGMA synchronous=FULL")
     base.execute("CREATE TABLE log (place INTEGER PRIMARY KEY, payload BLOB)")
+    start = time.perf_counter_ns()
     for _ in range(APPENDS):
         base.execute("INSERT INTO log (payload) VALUES (?)", (PAYLOAD,))
+    nanos = time.perf_counter_ns() - start
     base.close()
+    return nanos
 
 
 def main() -> None:
     append = {"syncs": append_with_two_syncs, "sqlite": commit_with_sqlite}[sys.argv[1]]
-    start = time.perf_counter_ns()
-    append(sys.argv[2])
-    print(f"append\t{(time.perf_counter_ns() - start) // APPENDS}")
+    print(f"append\t{append(sys.argv[2]) // APPENDS}")
 
 
 if __name__ == "__main__":

@@ -20,4 +20,4 @@ if ! python3 -c "import sqlite3" 2>/dev/null; then
     echo "skipped: SQLite (Python has no sqlite3)"
     sqlite=
 fi
-python3 -B "$here/join.py" 3 "ours=$program $folder/journal" "two syncs=$limit syncs $folder/syncs" ${sqlite:+"$sqlite"}
+python3 -B "$here/join.py" 3 "ours=$program measure $folder/journal" "two syncs=$limit syncs $folder/syncs" ${sqlite:+"$sqlite"}

@@ -5,10 +5,10 @@ use Rattle.std.specs.Prelude.{nat_le, nat_lt}
 use Rattle.cmp_ports.specs.Disk.{Every}
 use Rattle.journal_core.specs.declared.journal.Doubt.{Doubt}
 use Rattle.journal_core.specs.declared.journal.Doubt.TheVariants.{Clear, Before, Gate}
-use Rattle.journal_core.specs.Log.{framed, log_of, ClosedAfter, AreSmall, IsBeforeOrAfter}
+use Rattle.journal_core.specs.Log.{framed, log_of, ClosedAfter, AreSmall, IsBeforeOrAfter, IsWithout}
 use Rattle.journal_core.specs.Staged.{StagedAfter}
 use Rattle.journal_core.specs.Seal.{IsBodyFor}
-use Rattle.journal_core.specs.Journal.{IsInState, IsKeptAs, is_in_doubt, is_past_limit}
+use Rattle.journal_core.specs.Journal.{IsInState, IsKeptAs, is_in_doubt, is_at_gate, is_past_limit}
 use Rattle.journal_core.proofs.Logs.{log_push, small_push, length-log_push}
 
 -- with nothing in doubt, each image goes on with a closed gate
@@ -74,6 +74,27 @@ staged_recovers magic payloads payload c small fits staged = elim (cases_eq stag
 pub either_recovers : (magic : List ℕ) (payloads : List (List ℕ)) (payload c : List ℕ) → AreSmall payloads → length payload < 2 ^ 32 → ClosedAfter (log_of magic payloads) c ⊎ StagedAfter (log_of magic payloads) (framed payload) c → IsBeforeOrAfter magic payloads payload c
 either_recovers magic payloads payload c small fits (inl closed) = closed_recovers magic payloads payload c small closed
 either_recovers magic payloads payload c small fits (inr staged) = staged_recovers magic payloads payload c small fits staged
+
+-- the gate behind the front tells the two apart
+same_gate : (front rest more : List ℕ) (gate other : ℕ) → front ++ gate ∷ rest ≡ front ++ other ∷ more → gate ≡ other
+same_gate [] rest more gate other same = cc same
+same_gate (x ∷ front) rest more gate other same = same_gate front rest more gate other (cc same)
+
+pub without : (magic : List ℕ) (payloads : List (List ℕ)) (payload c : List ℕ) → AreSmall payloads → ClosedAfter (log_of magic payloads) c → IsWithout magic payloads payload c
+without magic payloads payload c small closed = (
+  record { small = small; closed = closed },
+  λ other.
+      let front = log_of magic payloads in
+      let behind = other.closed.gate ∷ other.closed.rest in
+      let opened_is : c ≡ front ++ 1 ∷ (framed payload ++ behind) = other.closed.parts ∙ ap (λ (l : List ℕ). l ++ behind) (log_push magic payloads payload) ∙ append_assoc front (1 ∷ framed payload) behind in
+      closed.shut (same_gate front closed.rest (framed payload ++ behind) closed.gate 1 (sym closed.parts ∙ opened_is)),
+)
+
+-- where the gate wasn't begun, each image goes on with a closed gate
+pub closed_before : (doubt : Doubt) (front body : List ℕ) (images : List ℕ → Type 0) → is_at_gate doubt ≡ false → IsInState doubt front body images → Every images (ClosedAfter front)
+closed_before Clear front body images unbegun state = state
+closed_before Before front body images unbegun state = state
+closed_before Gate front body images unbegun state = absurd (cc unbegun)
 
 -- what an image is in each state
 pub state_recovers : (doubt : Doubt) (magic : List ℕ) (payloads : List (List ℕ)) (payload c : List ℕ) (images : List ℕ → Type 0) → AreSmall payloads → length payload < 2 ^ 32 → IsInState doubt (log_of magic payloads) (framed payload) images → images c → IsBeforeOrAfter magic payloads payload c

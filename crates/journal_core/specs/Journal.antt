@@ -32,6 +32,16 @@ is_in_doubt Gate = true
 abbrev pub is_doubtful : Journal → Bool
 is_doubtful journal = is_in_doubt journal.doubt
 
+-- the payload's gate was begun to be written
+abbrev pub is_at_gate : Doubt → Bool
+is_at_gate Clear = false
+is_at_gate Before = false
+is_at_gate Gate = true
+
+-- a payload is in doubt, and append had begun to write its gate
+abbrev pub has_begun_gate : Journal → Bool
+has_begun_gate journal = is_at_gate journal.doubt
+
 -- the journal keeps these payloads on a disk of these images, and the last payload that it failed to append is this one
 abbrev pub IsKept : List ℕ → List (List ℕ) → List ℕ → Journal → (List ℕ → Type 0) → Type 0
 IsKept magic payloads payload journal images = IsKeptAs magic payloads payload journal.end journal.count journal.doubt images

@@ -37,6 +37,10 @@ pub record Recovers (magic image : List ℕ) (payloads : List (List ℕ)) : Type
 abbrev pub IsBeforeOrAfter : List ℕ → List (List ℕ) → List ℕ → List ℕ → Type 0
 IsBeforeOrAfter magic payloads payload image = Recovers magic image payloads ⊎ Recovers magic image (payloads ++ payload ∷ [])
 
+-- the image recovers to these payloads, and not to them with this one behind them
+abbrev pub IsWithout : List ℕ → List (List ℕ) → List ℕ → List ℕ → Type 0
+IsWithout magic payloads payload image = Recovers magic image payloads × (Recovers magic image (payloads ++ payload ∷ []) → ⊥)
+
 -- the first octet is 1
 abbrev pub is_open : List ℕ → Bool
 is_open [] = false

@@ -27,10 +27,10 @@ pub struct Journal {
 }
 
 impl Journal {
-    ghost use Rattle.cmp_ports.specs.Disk.{LeavesOnly};
+    ghost use Rattle.cmp_ports.specs.Disk.{Every, LeavesOnly};
     ghost use Rattle.cmp_ports.specs.Faults.{Rose, HasCause};
-    ghost use Rattle.journal_core.specs.Log.{log_of, IsBeforeOrAfter};
-    ghost use Rattle.journal_core.specs.Journal.{is_doubtful, is_past_limit, IsKept, IsSound, IsAtRest, IsAppended};
+    ghost use Rattle.journal_core.specs.Log.{log_of, IsBeforeOrAfter, IsWithout};
+    ghost use Rattle.journal_core.specs.Journal.{is_doubtful, has_begun_gate, is_past_limit, IsKept, IsSound, IsAtRest, IsAppended};
 
     /// Adds a payload to the log. After Ok each image of the disk has it. After `DiskFault` it is in doubt, and
     /// `settle` has to come before the next append. `Full` exactly where 262,144 payloads stand, or the log would
@@ -46,6 +46,10 @@ impl Journal {
             → IsAppended magic payloads entry.now result self.old self.new (D.images disk.new) }
         ensures full { (magic : List ℕ) (payloads : List (List ℕ)) → IsAtRest magic payloads self.old (D.images disk.old)
             → (result ≡ Err AppendFault.Full) ↔ IsTrue (is_past_limit (length payloads) (length (log_of magic payloads)) (length entry.now + 5)) }
+
+        // Where it fails before it begins to write the gate, no image of any moment of the call has the payload.
+        ensures unbegun { (magic : List ℕ) (payloads : List (List ℕ)) → IsAtRest magic payloads self.old (D.images disk.old)
+            → IsErrOf result AppendFault.DiskFault → has_begun_gate self.new ≡ false → LeavesOnly D.moment D.left_since disk.old disk.new (IsWithout magic payloads entry.now) }
 
         // A stop at any moment of the call leaves the payloads from before it, with the new one or without.
         ensures moments { (magic : List ℕ) (payloads : List (List ℕ)) → IsAtRest magic payloads self.old (D.images disk.old)
@@ -87,6 +91,14 @@ impl Journal {
         ensures clear { OnOk result (is_doubtful self.new ≡ false) }
         ensures outcome { (magic : List ℕ) (payloads : List (List ℕ)) (payload : List ℕ) → IsKept magic payloads payload self.old (D.images disk.old)
             → MatchResult result (λ _. IsAtRest magic payloads self.new (D.images disk.new)) (λ _. IsKept magic payloads payload self.new (D.images disk.new) × (self.new ≡ self.old)) }
+
+        // After Ok no image has the payload that was in doubt.
+        ensures gone { (magic : List ℕ) (payloads : List (List ℕ)) (payload : List ℕ) → IsKept magic payloads payload self.old (D.images disk.old)
+            → OnOk result (Every (D.images disk.new) (IsWithout magic payloads payload)) }
+
+        // Where append hadn't begun to write its gate, no image of any moment of the call has it.
+        ensures unbegun { (magic : List ℕ) (payloads : List (List ℕ)) (payload : List ℕ) → IsKept magic payloads payload self.old (D.images disk.old)
+            → has_begun_gate self.old ≡ false → LeavesOnly D.moment D.left_since disk.old disk.new (IsWithout magic payloads payload) }
 
         // A stop at any moment of the call leaves the payloads, with the doubtful one or without.
         ensures moments { (magic : List ℕ) (payloads : List (List ℕ)) (payload : List ℕ) → IsKept magic payloads payload self.old (D.images disk.old)

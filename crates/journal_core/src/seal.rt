@@ -1,5 +1,5 @@
 //! The two writes that make octets count: the octets with a closed gate behind them, and then the open gate.
-ghost use Rattle.std.specs.Prelude.{◌≡◌, ◌⊎◌, ◌+◌, ◌^◌, ◌<◌, ◌≤◌, ℕ, List, length, Some, OnOk};
+ghost use Rattle.std.specs.Prelude.{◌≡◌, ◌⊎◌, ◌+◌, ◌^◌, ◌<◌, ◌≤◌, ℕ, List, length, Some, OnOk, IsErrOf};
 ghost use Rattle.cmp_ports.specs.Disk.{Torn, Follows, Reached, Every, LeavesOnly, overwritten};
 ghost use Rattle.cmp_ports.specs.Faults.{HasCause};
 ghost use Rattle.journal_core.specs.Log.{ClosedAfter};
@@ -38,6 +38,8 @@ pub(crate) fn seal<D: Disk>(disk: &mut D, gate: u64, octets: &[u8]) -> Result<()
         → IsSealed front body result (D.images disk.new) }
     ensures moments { (front body : List ℕ) → IsBodyFor front body octets.now gate (D.images disk.old)
         → LeavesOnly D.moment D.left_since disk.old disk.new (λ c. ClosedAfter front c ⊎ StagedAfter front body c) }
+    ensures before { (front body : List ℕ) → IsBodyFor front body octets.now gate (D.images disk.old)
+        → IsErrOf result Unsealed.Before → LeavesOnly D.moment D.left_since disk.old disk.new (ClosedAfter front) }
     ensures cause { HasCause (D.faults disk.old) (D.faults disk.new) result }
 {
     // On the disk before the gate is opened: what stands behind an open gate counts.

@@ -23,6 +23,11 @@ returns-in-Err-clause-moments g c = λ front body is.
     weaker g.D.Disk.moment g.D.Disk.left_since _ _ _ (λ (i : List ℕ). ClosedAfter front i ⊎ StagedAfter front body i) c.write_through.ensures.moments
     (λ i left. inl (closed_still _ (Reached (Torn (c.args.gate + 1) (length c.args.octets.now)) (g.D.Disk.images c.args.disk.now)) front body c.args.octets.now c.args.gate is (λ j r. r) i left))
 
+pub returns-in-Err-clause-before : goal.returns-in-Err-clause-before
+returns-in-Err-clause-before g c = λ front body is failed.
+    weaker g.D.Disk.moment g.D.Disk.left_since _ _ _ (ClosedAfter front) c.write_through.ensures.moments
+    (λ i left. closed_still _ (Reached (Torn (c.args.gate + 1) (length c.args.octets.now)) (g.D.Disk.images c.args.disk.now)) front body c.args.octets.now c.args.gate is (λ j r. r) i left)
+
 pub returns-in-Ok-write_through-clause-outcome : goal.returns-in-Ok-write_through-clause-outcome
 returns-in-Ok-write_through-clause-outcome g c = λ front body is.
     let staged = staged_now _ _ front body c.args.octets.now c.args.gate is c.in-Ok.ensures.written in

@@ -1,9 +1,9 @@
 use Rattle.std.proofs.Common.{ℕ, ◌<◌, ◌≤◌, ◌^◌, [], ◌∷◌, ◌++◌, length, refl, subst, arith, Err}
 use Rattle.cmp_ports.specs.Moments.{weaker}
 use Rattle.journal_core.specs.declared.seal.Unsealed.{Unsealed}
-use Rattle.journal_core.specs.Log.{framed, log_of, IsBeforeOrAfter}
+use Rattle.journal_core.specs.Log.{framed, log_of, IsBeforeOrAfter, IsWithout}
 use Rattle.journal_core.specs.Seal.{IsSealed}
-use Rattle.journal_core.proofs.States.{body_for, appended, before_gate, at_gate, below_limit, either_recovers}
+use Rattle.journal_core.proofs.States.{body_for, appended, before_gate, at_gate, below_limit, either_recovers, without}
 use Rattle.journal_core.proofs.journal.Journal.append.Goals as goal
 
 small_enough : (n : ℕ) → n ≤ 1073741824 → n < 2 ^ 32
@@ -48,6 +48,13 @@ returns-in-Err-Before-clause-moments g c = λ magic payloads rest.
     let body = body_for magic payloads [] c.args.entry.now c.octets-octets.result.now c.args.self.now.end c.args.self.now.count c.args.self.now.doubt (g.D.Disk.images c.args.disk.now) rest.0 rest.1 octets.spelled in
     weaker g.D.Disk.moment g.D.Disk.left_since _ _ _ (IsBeforeOrAfter magic payloads c.args.entry.now) (c.seal.ensures.moments (log_of magic payloads) (framed c.args.entry.now) body)
     (λ i left. either_recovers magic payloads c.args.entry.now i rest.0.small (small_enough (length c.args.entry.now) octets.fits) left)
+
+pub returns-in-Err-Before-clause-unbegun : goal.returns-in-Err-Before-clause-unbegun
+returns-in-Err-Before-clause-unbegun g c = λ magic payloads rest failed unbegun.
+    let octets = c.octets-octets.ensures in
+    let body = body_for magic payloads [] c.args.entry.now c.octets-octets.result.now c.args.self.now.end c.args.self.now.count c.args.self.now.doubt (g.D.Disk.images c.args.disk.now) rest.0 rest.1 octets.spelled in
+    weaker g.D.Disk.moment g.D.Disk.left_since _ _ _ (IsWithout magic payloads c.args.entry.now) (c.in-Err-Before.ensures.before (log_of magic payloads) (framed c.args.entry.now) body (cc c.in-Err-Before.field-0-is))
+    (λ i left. without magic payloads c.args.entry.now i rest.0.small left)
 
 pub returns-in-Err-Gate-clause-outcome : goal.returns-in-Err-Gate-clause-outcome
 returns-in-Err-Gate-clause-outcome g c = λ magic payloads rest.
