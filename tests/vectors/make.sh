@@ -14,7 +14,8 @@ fi
 python3 "$here/mac_vectors.py" >"$out/hmac.txt"
 python3 "$here/frame_vectors.py" "$out/frame.der" >"$out/frames.txt"
 python3 "$here/change_vectors.py" >"$out/changes.txt"
-echo "hmac.txt, frames.txt, frame.der and changes.txt are made"
+python3 "$here/history_vectors.py" >"$out/histories.txt"
+echo "hmac.txt, frames.txt, frame.der, changes.txt and histories.txt are made"
 
 jars=${BCJARS:-/usr/share/java}
 path=$jars/bcprov.jar:$jars/bcutil.jar

@@ -7,6 +7,8 @@ mod kinds;
 mod nonces;
 mod standings;
 mod table;
+#[cfg(test)]
+mod tests;
 mod views;
 
 pub use keys::{is_lms_key, key_id, key_of, leaves_of, levels_of, ots_of, tree_of};
@@ -14,6 +16,6 @@ pub use nonces::last_nonce;
 pub use standings::{not_after, owner_of, standing_of, standing_of_who};
 pub use table::Table;
 pub use views::{
-    certificate_state, founding, is_dismissed, is_key_taken, is_known, is_listed, is_told,
-    leaves_used, transaction_state,
+    certificate_state, founding, grant_for, grant_of, hold_for, is_dismissed, is_key_taken,
+    is_known, is_listed, is_told, leaves_used, transaction_state,
 };

@@ -34,13 +34,22 @@ fn wait_of(h: &[Change]) -> u32
     }
 }
 
-fn grant_for<'a>(h: &'a [Change], tid: &[u8]) -> Option<&'a Change>
+/// The Grant of a transaction; none where there is none.
+pub fn grant_for<'a>(h: &'a [Change], tid: &[u8]) -> Option<&'a Change>
     ensures { option_copied result ≡ find (is_grant_for tid.now) h.now }
 {
     h.iter().find(|c| is_grant_for(tid, c))
 }
 
-pub(crate) fn grant_of(h: &[Change], serial: u64) -> Option<&Change>
+/// The Hold of a transaction; none where there is none.
+pub fn hold_for<'a>(h: &'a [Change], tid: &[u8]) -> Option<&'a Change>
+    ensures { option_copied result ≡ find (is_hold_for tid.now) h.now }
+{
+    h.iter().find(|c| is_hold_for(tid, c))
+}
+
+/// The Grant of the certificate with this serial number; none where there is none.
+pub fn grant_of(h: &[Change], serial: u64) -> Option<&Change>
     ensures { option_copied result ≡ find (is_grant_of serial) h.now }
 {
     h.iter().find(|c| is_grant_of(serial, c))

@@ -9,9 +9,9 @@ use deal_changes::{Body4, Kind, Who, Wish};
 pub struct Ask {
     /// SHA-256 of the message as it was received.
     pub digest: [u8; 32],
-    /// The transactionID, 1 to 64 octets (RFC 9810, 5.1.1).
+    /// The transactionID, 1 to 64 octets (RFC 9810, 5.1.1); empty where only the place and the time are asked.
     pub tid: Short,
-    /// How the message is protected; none where it isn't.
+    /// How the message is protected; none where it isn't, or by another algorithm.
     pub kind: Option<Kind>,
     /// The senderKID; empty where it is absent or has more than 64 octets, and nobody has that identifier.
     pub kid: Short,
