@@ -15,7 +15,7 @@ pub struct Ask {
     pub kind: Option<Kind>,
     /// The senderKID; empty where it is absent or has more than 64 octets, and nobody has that identifier.
     pub kid: Short,
-    /// The protection and the senderKID of the nested message around it, where there is one (RFC 9810, 5.1.3.4).
+    /// The protection and the senderKID of the nested message around it, where there is one (RFC 9810, 5.1.3.5).
     pub outer: Option<(Kind, Short)>,
 }
 
