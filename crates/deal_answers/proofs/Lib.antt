@@ -1,3 +1,4 @@
 pub mod Finds
 pub mod Lms
 pub mod Timely
+pub mod Owners

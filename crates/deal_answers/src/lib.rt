@@ -4,6 +4,7 @@
 
 mod keys;
 mod kinds;
+mod laws;
 mod nonces;
 mod standings;
 mod table;
@@ -12,6 +13,7 @@ mod tests;
 mod views;
 
 pub use keys::{is_lms_key, key_id, key_of, leaves_of, levels_of, ots_of, tree_of};
+pub use laws::owners_stay;
 pub use nonces::last_nonce;
 pub use standings::{not_after, owner_of, standing_of, standing_of_who};
 pub use table::Table;
