@@ -1,1 +1,4 @@
+pub mod FormLemmas
 pub mod LevelLemmas
+pub mod OneLevelLemmas
+pub mod ValidLemmas

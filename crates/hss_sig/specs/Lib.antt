@@ -1,2 +1,3 @@
 pub mod Forms
 pub mod Hss
+pub mod OneLevel

@@ -1,9 +1,10 @@
 // The numbers in a key and the size of its signatures.
 
-ghost use Rattle.std.specs.Prelude.{◌≡◌, ◌+◌, ◌*◌, ◌≤◌, length, option_map};
+ghost use Rattle.std.specs.Prelude.{◌≡◌, ◌+◌, ◌*◌, ◌^◌, ◌≤◌, length, option_map};
 ghost use Rattle.lms_params.specs.Parameters.{ots_row};
 ghost use Rattle.lms_tree.specs.Verifies.{u32_at};
 ghost use Rattle.hss_sig.specs.Hss.{signature_size};
+ghost use Rattle.hss_sig.specs.OneLevel.{leaf_count};
 
 use lms_params::{Ots, Tree, with_ots, with_tree};
 
@@ -39,4 +40,21 @@ pub(crate) fn signature_size(key: &[u8]) -> Option<usize>
     ensures { result ≡ signature_size key.now }
 {
     with_tree!(u32_at(key, 0), |tree| size_with(tree, u32_at(key, 4)))?
+}
+
+// The number of leaves of a tree.
+fn leaves_of<const H: u32>(tree: Tree<H>) -> u32
+    ensures { result ≡ 2 ^ H }
+{
+    tree.leaves() as u32
+}
+
+// The number of leaves under a tree's typecode. 0 where it is not in the table.
+pub(crate) fn leaves_under(code: u32) -> u32
+    ensures { result ≡ leaf_count code }
+{
+    match with_tree!(code, |tree| leaves_of(tree)) {
+        Some(leaves) => leaves,
+        None => 0,
+    }
 }
