@@ -20,17 +20,19 @@ def timings(command: str) -> dict[str, int]:
     return found
 
 
-def main() -> None:
-    turns = int(sys.argv[1])
-    programs = [word.split("=", 1) for word in sys.argv[2:]]
+def least_of(turns: int, programs: list[list[str]]) -> list[dict[str, int]]:
     least: list[dict[str, int]] = [{} for _ in programs]
     for _ in range(turns):
         for kept, (_, command) in zip(least, programs):
             for name, value in timings(command).items():
                 kept[name] = min(value, kept.get(name, value))
+    return least
+
+
+def show(turns: int, titles: list[str], least: list[dict[str, int]]) -> None:
     ours = least[0]
-    titles = [f"{title:>14}" for title, _ in programs]
-    print(f"{f'least of {turns} turns':24} " + titles[0] + "".join(f"{title}  times ours" for title in titles[1:]))
+    heads = [f"{title:>14}" for title in titles]
+    print(f"{f'least of {turns} turns':24} " + heads[0] + "".join(f"{head}  times ours" for head in heads[1:]))
     for name in dict.fromkeys(name for side in least for name in side):
         line = f"{name:24} " + column(ours, name)
         for side in least[1:]:
@@ -41,6 +43,12 @@ def main() -> None:
 
 def column(side: dict[str, int], name: str) -> str:
     return f"{side[name] / 1000:11.1f} us" if name in side else f"{'-':>14}"
+
+
+def main() -> None:
+    turns = int(sys.argv[1])
+    programs = [word.split("=", 1) for word in sys.argv[2:]]
+    show(turns, [title for title, _ in programs], least_of(turns, programs))
 
 
 if __name__ == "__main__":

@@ -1,5 +1,6 @@
 #!/bin/sh
-# Times LM-OTS and LMS of this repository beside Bouncy Castle, on one core, in turns in one run.
+# Times LM-OTS and LMS of this repository beside Bouncy Castle, on one core, in turns in one run. Says how the times
+# grow with the height, and how far growing is from the time of its compressions alone.
 # Words: `quick` leaves out the tree of height 15.
 set -eu
 
@@ -25,4 +26,4 @@ core=
 if command -v taskset >/dev/null; then
     core="taskset -c 0"
 fi
-python3 -B "$here/join.py" 2 "ours=$core $program $*" "Bouncy Castle=$core java -cp $classes:$jar LmsBench $*"
+python3 -B "$here/lms.py" 2 "ours=$core $program $*" "Bouncy Castle=$core java -cp $classes:$jar LmsBench $*"

@@ -23,10 +23,11 @@ public final class LmsBench {
         for (int code = 1; code <= 4; code++) {
             timeOneTime(code);
         }
-        timeTree("h5 w8", LMSigParameters.lms_sha256_n32_h5, W8, 8);
-        timeTree("h10 w4", LMSigParameters.lms_sha256_n32_h10, W4, 2);
+        timeTree("h5 w8", LMSigParameters.lms_sha256_n32_h5, W8, 8, 25);
+        timeTree("h5 w4", LMSigParameters.lms_sha256_n32_h5, W4, 60, 25);
+        timeTree("h10 w4", LMSigParameters.lms_sha256_n32_h10, W4, 3, 25);
         if (words.length == 0 || !words[0].equals("quick")) {
-            show("grow h15 w4", least(1, 1, turn -> grow(LMSigParameters.lms_sha256_n32_h15, W4)));
+            timeTree("h15 w4", LMSigParameters.lms_sha256_n32_h15, W4, 1, 3);
         }
     }
 
@@ -40,7 +41,7 @@ public final class LmsBench {
         show("candidate" + width, least(count, turns, q -> quietly(() -> Inside.candidate(code, ID, 0, TEXT, signature))));
     }
 
-    private static void timeTree(String set, LMSigParameters tree, LMOtsParameters ots, int turns) {
+    private static void timeTree(String set, LMSigParameters tree, LMOtsParameters ots, int turns, int signatures) {
         show("grow " + set, least(1, turns, turn -> grow(tree, ots)));
         int leaves = 1 << tree.getH();
         LMSPrivateKeyParameters key = new LMSPrivateKeyParameters(tree, ots, 0, ID, leaves, SEED);
@@ -48,7 +49,7 @@ public final class LmsBench {
         LMSSigner signer = new LMSSigner();
         signer.init(true, key);
         byte[] signature = signer.generateSignature(TEXT);
-        show("sign " + set, least(1, 25, turn -> signer.generateSignature(TEXT)));
+        show("sign " + set, least(1, signatures, turn -> signer.generateSignature(TEXT)));
         LMSSigner verifier = new LMSSigner();
         verifier.init(false, open);
         show("verify " + set, least(1, 400, turn -> {

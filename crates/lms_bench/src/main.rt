@@ -1,11 +1,15 @@
-//! Times one-time keys and signatures, for each LM-OTS typecode. Prints a line for each timing: its name, a tab, and
-//! the nanoseconds of one operation, the least of some short turns. With any word but `quick` it prints nothing.
+//! Times one-time keys and signatures, for each LM-OTS typecode, and keys and signatures of trees. Prints a line for
+//! each timing: its name, a tab, and the nanoseconds of one operation, the least of some turns. The word `quick` leaves
+//! the tree of height 15 out. With any other word it prints nothing.
 #![tactic(auto)]
+
+mod trees;
 
 use cmp_ports::Octets;
 use lm_ots::{KeyPart, candidate, public_hash, sign_ots};
 use std::time::{Clock, Instant};
 use std::{env, io};
+use trees::{TREES, compression_time, grow_time, signature_times};
 
 /// How many turns a timing has. They are short, so that some run without a pause.
 const TURNS: u32 = 300;
@@ -81,11 +85,17 @@ fn least<C: Clock>(
 }
 
 fn main(rt: HostRuntime) -> io::Result<()> {
-    if env::args(&rt)?.skip(1).any(|word| word.as_str() != "quick") {
-        return Ok(());
+    let mut quick = false;
+    for word in env::args(&rt)?.skip(1) {
+        if word.as_str() != "quick" {
+            return Ok(());
+        }
+        quick = true;
     }
     let mut signature = Octets::empty(rt.alloc());
     let mut seen = 0;
+    let nanos = compression_time(&rt, &mut seen)?;
+    println!(rt; "compression\t{nanos}")?;
     for (operation, name, ots, count) in TIMINGS {
         let key = KeyPart {
             seed: *SEED,
@@ -94,6 +104,16 @@ fn main(rt: HostRuntime) -> io::Result<()> {
         };
         let nanos = least(&rt, operation, &key, count, &mut signature, &mut seen)?;
         println!(rt; "{name}\t{nanos}")?;
+    }
+    for tree in TREES {
+        if quick && tree.turns == 1 {
+            continue;
+        }
+        let (nanos, key) = grow_time(&rt, rt.alloc(), tree.set, tree.turns)?;
+        println!(rt; "grow {}\t{nanos}", tree.name)?;
+        let (signed, verified) = signature_times(&rt, &key, &mut seen)?;
+        println!(rt; "sign {}\t{signed}", tree.name)?;
+        println!(rt; "verify {}\t{verified}", tree.name)?;
     }
     println!(rt; "seen {seen}")?;
     Ok(())
