@@ -1,7 +1,11 @@
 //! Two histories whose changes tests/vectors/history_vectors.py laid out with Python's `struct`. What each answers stands there,
 //! written by hand from the rules of the history; identifiers of keys are hashlib's.
 
-use crate::{Table, key_id};
+use crate::{
+    Table, founding, grant_for, grant_of, hold_for, is_dismissed, is_key_taken, is_known,
+    is_listed, is_lms_key, key_id, key_of, leaves_of, levels_of, not_after, ots_of, owner_of,
+    tree_of,
+};
 use deal_model::{
     CertificateState, Change, DealState, Key, Kind, Reason, Standing, Who, read_change,
 };
@@ -143,6 +147,20 @@ fn is_nonce(nonce: Option<[u8; 16]>, first: u8, last: u8) -> bool {
         Some(octets) => octets[0] == first && octets[15] == last,
         None => false,
     }
+}
+
+/// Whether this is the key's identifier.
+fn has_id(key: &[u8], kid: &[u8]) -> bool {
+    key_id(key).as_slice() == kid
+}
+
+/// Whether a key has these numbers of levels, of its first tree's type and its signatures' type, and of leaves.
+fn has_numbers(key: &[u8], levels: u32, tree: u32, ots: u32, leaves: u32) -> bool {
+    if key.len() < 12 {
+        return false;
+    }
+    let is_typed = tree_of(key) == tree && ots_of(key) == ots;
+    is_typed && levels_of(key) == levels && leaves_of(key) == leaves
 }
 
 /// The first changes of a history.
@@ -297,5 +315,58 @@ fn each_sender_stands_by_its_changes(rt: HostRuntime) -> Result<(), Fail> {
     assert_eq!(rt; held.transaction(b"C"), DealState::Held);
     let released = Table::of(beginning(&history, 9)).ok_or("these are times of a clock")?;
     assert_eq!(rt; released.transaction(b"C"), DealState::Released);
+    Ok(())
+}
+
+#[test]
+fn keys_and_listed_senders_are_told(rt: HostRuntime) -> Result<(), Fail> {
+    let alloc = rt.alloc();
+    let history = every_kind(alloc)?;
+    let settings = founding(&history).ok_or("it was founded")?;
+    assert_eq!(rt; settings.days, 365);
+    assert_eq!(rt; not_after(&history, 1_700_000_000), 1_731_535_999);
+    let key: Vec<u8> = decode(
+        alloc,
+        "000000010000000500000004808182838485868788898a8b8c8d8e8f101112131415161718191a1b1c1d1e1f202122232425262728292a2b2c2d2e2f",
+    )?;
+    assert!(rt; has_numbers(&key, 1, 5, 4, 32));
+    let kid: Vec<u8> = decode(alloc, "dceafed002c3f2ba0787c9baeb21ff9ad177f5d9")?;
+    assert!(rt; has_id(&key, &kid));
+    assert!(rt; is_key_taken(&history, &kid));
+    assert!(rt; is_listed(&history, Kind::Mac, b"dev-3"));
+    assert!(rt; is_dismissed(&history, Kind::Mac, b"dev-3"));
+    assert!(rt; !is_dismissed(&history, Kind::Mac, b"dev-1"));
+    assert!(rt; owner_of(&history, Kind::Mac, b"dev-3").is_some());
+    Ok(())
+}
+
+#[test]
+fn requests_are_found_by_what_names_them(rt: HostRuntime) -> Result<(), Fail> {
+    let alloc = rt.alloc();
+    let history = every_kind(alloc)?;
+    assert!(rt; grant_for(&history, b"C").is_some());
+    assert!(rt; hold_for(&history, b"C").is_some());
+    assert!(rt; hold_for(&history, b"A").is_none());
+    assert!(rt; grant_of(&history, 5).is_some());
+    assert!(rt; grant_of(&history, 2).is_none());
+    // The digest of the second message: 02, 03, .. 21.
+    let octets: Vec<u8> = decode(
+        alloc,
+        "02030405060708090a0b0c0d0e0f101112131415161718191a1b1c1d1e1f2021",
+    )?;
+    let mut digest = [0u8; 32];
+    if octets.len() == 32 {
+        digest.copy_from_slice(&octets);
+    }
+    assert!(rt; is_known(&history, &digest));
+    assert!(rt; !is_known(&history, &[0; 32]));
+    // The key of certificate 3 behind its algorithm.
+    let spki: Vec<u8> = decode(
+        alloc,
+        "304e300d060b2a864886f70d0109100311033d00000000010000000500000004404142434445464748494a4b4c4d4e4f505152535455565758595a5b5c5d5e5f606162636465666768696a6b6c6d6e6f",
+    )?;
+    assert!(rt; is_lms_key(&spki));
+    let kid: Vec<u8> = decode(alloc, "71b7b6761417444e7754e1bb9261355dfbb4244d")?;
+    assert!(rt; has_id(key_of(&spki), &kid));
     Ok(())
 }
