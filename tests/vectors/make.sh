@@ -15,7 +15,13 @@ python3 "$here/mac_vectors.py" >"$out/hmac.txt"
 python3 "$here/frame_vectors.py" "$out/frame.der" >"$out/frames.txt"
 python3 "$here/change_vectors.py" >"$out/changes.txt"
 python3 "$here/history_vectors.py" >"$out/histories.txt"
-echo "hmac.txt, frames.txt, frame.der, changes.txt and histories.txt are made"
+python3 "$here/near_certs.py" >"$out/near_certs.txt"
+if command -v openssl >/dev/null; then
+    "$here/openssl_certs.sh" >"$out/openssl_certs.txt"
+else
+    echo "skipped: openssl_certs.txt (no openssl)"
+fi
+echo "hmac.txt, frames.txt, frame.der, changes.txt, histories.txt and near_certs.txt are made"
 
 jars=${BCJARS:-/usr/share/java}
 path=$jars/bcprov.jar:$jars/bcutil.jar
@@ -30,9 +36,10 @@ fi
 classes=$(mktemp -d)
 trap 'rm -rf "$classes"' EXIT
 javac -cp "$path" -d "$classes" "$here/java/org/bouncycastle/pqc/crypto/lms/Inside.java" \
-    "$here/java/LmsVectors.java" "$here/java/AsnVectors.java"
+    "$here/java/LmsVectors.java" "$here/java/AsnVectors.java" "$here/java/CertVectors.java"
 java -Dstdout.encoding=UTF-8 -cp "$classes:$path" AsnVectors >"$out/asn.txt"
-echo "asn.txt is made"
+java -cp "$classes:$path" CertVectors >"$out/certs.txt"
+echo "asn.txt and certs.txt are made"
 for part in ots trees hss; do
     java -cp "$classes:$path" LmsVectors "$part" >"$out/lms_$part.txt"
 done

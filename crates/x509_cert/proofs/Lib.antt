@@ -1,0 +1,3 @@
+pub mod CertLemmas
+pub mod PlanLemmas
+pub mod ValidityLemmas
