@@ -1,0 +1,4 @@
+pub mod Header
+pub mod Plan
+pub mod Rows
+pub mod Time
