@@ -8,7 +8,7 @@ import os
 import sys
 import time
 
-APPENDS = 500
+APPENDS = 100
 PAYLOAD = bytes(range(250)) * 2
 
 

@@ -20,4 +20,6 @@ if ! python3 -c "import sqlite3" 2>/dev/null; then
     echo "skipped: SQLite (Python has no sqlite3)"
     sqlite=
 fi
-python3 -B "$here/join.py" 3 "ours=$program measure $folder/journal" "two syncs=$limit syncs $folder/syncs" ${sqlite:+"$sqlite"}
+# Short turns, and many: other work on the disk slows each of them.
+python3 -B "$here/join.py" 40 "ours=$program append $folder/journal" "two syncs=$limit syncs $folder/syncs" ${sqlite:+"$sqlite"}
+python3 -B "$here/join.py" 15 "ours=$program mount $folder/journal"

@@ -1,7 +1,7 @@
 //! Times the journal on a real file: appends, and mounts of logs of several lengths.
 //!
-//! With the words `measure` and a path it replaces what stands at that path, and prints a line for each timing: its
-//! name, a tab, and the nanoseconds of one append or of one mount. With any other words it prints nothing.
+//! With the word `append` or `mount` and a path it replaces what stands at that path, and prints a line for each timing:
+//! its name, a tab, and the nanoseconds of one append or of one mount. With any other words it prints nothing.
 #![tactic(auto)]
 
 ghost use Rattle.std.specs.Prelude.{◌≡◌, ◌≤◌, length, false, IfOk};
@@ -19,7 +19,7 @@ const MAGIC: [u8; 7] = *b"CMPLOG1";
 const PAYLOAD: usize = 500;
 
 /// How many appends are timed.
-const APPENDS: u32 = 500;
+const APPENDS: u32 = 100;
 
 /// How many payloads the mounted logs have.
 const LENGTHS: [u32; 3] = [1_000, 10_000, 100_000];
@@ -79,6 +79,7 @@ fn time_mount(rt: &HostRuntime, path: &str, entry: &Record, count: u32) -> io::R
     let alloc = rt.alloc();
     fs::write(rt, path, long_log(alloc, entry, count)?.as_slice())?;
     let mut disk = FileDisk::new(rt, String::from_str(alloc, path).map_err(other)?);
+    disk.sync().map_err(other)?;
     let start = Instant::now(rt)?;
     let (_, payloads) = Journal::mount(alloc, &mut disk, &MAGIC).map_err(other)?;
     let nanos = start.elapsed(rt)?.as_nanos();
@@ -88,12 +89,9 @@ fn time_mount(rt: &HostRuntime, path: &str, entry: &Record, count: u32) -> io::R
     Ok(nanos)
 }
 
-fn measure(rt: &HostRuntime, path: &str) -> io::Result<()> {
-    let entry = Record::new(rt.alloc(), &[0x5a; PAYLOAD]).map_err(other)?;
-    let nanos = time_append(rt, path, &entry)?;
-    println!(rt; "append\t{nanos}")?;
+fn time_mounts(rt: &HostRuntime, path: &str, entry: &Record) -> io::Result<()> {
     for count in LENGTHS {
-        let nanos = time_mount(rt, path, &entry, count)?;
+        let nanos = time_mount(rt, path, entry, count)?;
         println!(rt; "mount {count}\t{nanos}")?;
     }
     Ok(())
@@ -101,11 +99,17 @@ fn measure(rt: &HostRuntime, path: &str) -> io::Result<()> {
 
 fn main(rt: HostRuntime) -> io::Result<()> {
     let mut words = env::args(&rt)?.skip(1);
-    if !words.next().is_some_and(|word| word.as_str() == "measure") {
+    let word = words.next();
+    let Some(path) = words.next() else {
         return Ok(());
-    }
-    match words.next() {
-        Some(path) => measure(&rt, path.as_str()),
-        None => Ok(()),
+    };
+    let entry = Record::new(rt.alloc(), &[0x5a; PAYLOAD]).map_err(other)?;
+    match word.as_deref() {
+        Some("append") => {
+            let nanos = time_append(&rt, path.as_str(), &entry)?;
+            Ok(println!(rt; "append\t{nanos}")?)
+        }
+        Some("mount") => time_mounts(&rt, path.as_str(), &entry),
+        _ => Ok(()),
     }
 }
