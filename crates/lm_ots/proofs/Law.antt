@@ -43,7 +43,7 @@ length-steps id q i a zero x h = h
 length-steps id q i a (suc n) x h = length-steps id q i (a + 1) n (step id q i a x) (length-step id q i a x)
 
 -- the same parts make the same whole
-joined-same : (f g : ℕ → List ℕ) (n : ℕ) → ((i : ℕ) → i < n → f i ≡ g i) → joined f n ≡ joined g n
+pub joined-same : (f g : ℕ → List ℕ) (n : ℕ) → ((i : ℕ) → i < n → f i ≡ g i) → joined f n ≡ joined g n
 unfolding joined
 joined-same f g zero same = refl
 joined-same f g (suc n) same = ap₂ (λ (a b : List ℕ). a ++ b) (joined-same f g n (λ i h. same i (omega arith))) (same n (omega arith))

@@ -1,4 +1,5 @@
 pub mod ChainLemmas
+pub mod FourLemmas
 pub mod Law
 pub mod Messages
 pub mod Parts

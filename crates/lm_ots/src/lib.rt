@@ -13,7 +13,9 @@ pub use signature::{
     signature_leads_to_key,
 };
 
+mod all;
 mod chain;
+mod four;
 mod key;
 mod message;
 mod signature;

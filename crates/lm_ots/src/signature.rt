@@ -1,12 +1,15 @@
 // One-time signatures and the public hash that one leads to (RFC 8554, 4.5 and 4.6).
 
-ghost use Rattle.std.specs.Prelude.{◌≡◌, ℕ, ◌+◌, ◌*◌, ◌<◌, ◌↔◌, ◌++◌, None, IsTrue, IfOk, OnOk, OnErr, OnSome, IfSome, MatchOption, length, take};
+ghost use Rattle.std.specs.Prelude.{◌≡◌, ℕ, ◌+◌, ◌*◌, ◌<◌, ◌≤◌, ◌↔◌, ◌++◌, None, IsTrue, IfOk, OnOk, OnErr, OnSome, IfSome, MatchOption, length, slice_index, take};
 ghost use Rattle.lms_params.specs.Parameters.{ots_row};
+ghost use Rattle.lms_params.specs.Digits.{coef_of};
 ghost use Rattle.lm_ots.specs.Chains.{ends_hash, joined};
-ghost use Rattle.lm_ots.specs.Signatures.{SignatureLeadsToKey, candidate_if, candidate_in, candidate_of, c_of, has_form, ots_signature, randomizer, recovered_end, signed_octets, signed_value};
+ghost use Rattle.lm_ots.specs.Runs.{Settled, value_in};
+ghost use Rattle.lm_ots.specs.Signatures.{SignatureLeadsToKey, candidate_if, candidate_in, candidate_of, c_of, has_form, ots_signature, randomizer, recovered_end, signed_octets, signed_value, y_of};
 
-use crate::chain::{chain, secret_chain};
-use crate::key::KeyPart;
+use crate::all::{ends, secrets};
+use crate::chain::secret_chain;
+use crate::key::{KeyPart, hash_of_ends};
 use crate::message::opened;
 use cmp_ports::Octets;
 use lms_params::{Ots, coef, with_checksum, with_ots};
@@ -39,19 +42,37 @@ fn signed_octets_in<const W: u32, const P: usize, const LS: u32>(
     with_checksum(&hasher.finalize(), W, LS)
 }
 
-// The value of chain `i` in a signature.
-#[tactic(auto, unfolding(crate::specs::Signatures::signed_value))]
-fn signed_value_in<const W: u32, const P: usize, const LS: u32>(
+// The digits of the octets that are signed, a place on each chain.
+fn digits_in<const W: u32, const P: usize, const LS: u32>(
     _set: Ots<W, P, LS>,
+    octets: &[u8; 34],
+) -> [u8; P]
+    ensures size { length result ≡ P }
+    ensures digits { (i : ℕ) → i < P → slice_index result i ≡ coef_of octets.now i W }
+{
+    let mut digits = [0u8; P];
+    for i in 0..P {
+        digits[i] = coef(octets, i, W) as u8;
+    }
+    digits
+}
+
+// The values of all chains in a signature.
+fn signed_values_in<const W: u32, const P: usize, const LS: u32>(
+    set: Ots<W, P, LS>,
     key: &KeyPart,
     q: u32,
     octets: &[u8; 34],
-    i: usize,
-) -> [u8; 32]
-    requires { i < P }
-    ensures { result ≡ signed_value (record { w = W; p = P; ls = LS }) key.now.seed key.now.id q octets.now i }
+) -> [[u8; 32]; P]
+    ensures size { length result ≡ P }
+    ensures values { (i : ℕ) → i < P → Settled (signed_value (record { w = W; p = P; ls = LS }) key.now.seed key.now.id q octets.now) result i }
 {
-    secret_chain(&key.seed, &key.id, q, i as u16, coef(octets, i, W))
+    let mut starts = [[0u8; 32]; P];
+    secrets(&key.seed, &key.id, q, &mut starts);
+    let mut values = [[0u8; 32]; P];
+    let to = digits_in(set, octets);
+    ends(&key.id, q, &[0; P], &to, &starts, &mut values);
+    values
 }
 
 // Appends the values of a signature. After an `Err` some of them stand behind what was there.
@@ -65,8 +86,16 @@ fn write_values<const W: u32, const P: usize, const LS: u32>(
     ensures ok { OnOk result (out.new ≡ out.old ++ joined (signed_value (record { w = W; p = P; ls = LS }) key.now.seed key.now.id q octets.now) P) }
     ensures err { OnErr result (take (length out.old) out.new ≡ out.old) }
 {
-    for i in 0..P {
-        out.append(&signed_value_in(set, key, q, octets, i))?;
+    append_values(&signed_values_in(set, key, q, octets), out)
+}
+
+// Appends values one behind the other. After an `Err` some of them stand behind what was there.
+fn append_values(values: &[[u8; 32]], out: &mut Octets) -> Result<(), AllocError>
+    ensures ok { OnOk result (out.new ≡ out.old ++ joined (value_in values.now) (length values.now)) }
+    ensures err { OnErr result (take (length out.old) out.new ≡ out.old) }
+{
+    for i in 0..values.len() {
+        out.append(&values[i])?;
     }
     Ok(())
 }
@@ -133,23 +162,50 @@ pub fn sign_ots(key: &KeyPart, q: u32, text: &[u8], out: &mut Octets) -> Result<
     }
 }
 
-// The end of chain `i` from its value in a signature.
-#[tactic(auto, unfolding(crate::specs::Signatures::recovered_end))]
-fn recovered_end_in<const W: u32, const P: usize, const LS: u32>(
+// The values of all chains in a signature that is at hand.
+fn values_in<const W: u32, const P: usize, const LS: u32>(
+    _set: Ots<W, P, LS>,
+    sig: &[u8],
+) -> [[u8; 32]; P]
+    requires { length sig.now ≡ 36 + 32 * P }
+    ensures size { length result ≡ P }
+    ensures values { (i : ℕ) → i < P → Settled (y_of sig.now) result i }
+{
+    let mut values = [[0u8; 32]; P];
+    for i in 0..P {
+        values[i] = value_at(sig, i);
+    }
+    values
+}
+
+// The value of chain `i` in a signature that is at hand.
+fn value_at(sig: &[u8], i: usize) -> [u8; 32]
+    requires { 68 + 32 * i ≤ length sig.now }
+    ensures { result ≡ y_of sig.now i }
+{
+    let mut value = [0u8; 32];
+    value.copy_from_slice(&sig[36 + 32 * i..68 + 32 * i]);
+    value
+}
+
+// The ends of all chains from their values in a signature.
+fn recovered_ends_in<const W: u32, const P: usize, const LS: u32>(
     set: Ots<W, P, LS>,
     id: &[u8; 16],
     q: u32,
     octets: &[u8; 34],
     sig: &[u8],
-    i: usize,
-) -> [u8; 32]
-    requires place { i < P }
-    requires size { length sig.now ≡ 36 + 32 * P }
-    ensures { result ≡ recovered_end (record { w = W; p = P; ls = LS }) id.now q octets.now sig.now i }
+) -> [[u8; 32]; P]
+    requires { length sig.now ≡ 36 + 32 * P }
+    ensures size { length result ≡ P }
+    ensures values { (i : ℕ) → i < P → Settled (recovered_end (record { w = W; p = P; ls = LS }) id.now q octets.now sig.now) result i }
 {
-    let mut value = [0u8; 32];
-    value.copy_from_slice(&sig[36 + 32 * i..68 + 32 * i]);
-    chain(id, q, i as u16, coef(octets, i, W), set.greatest(), &value)
+    let starts = values_in(set, sig);
+    let mut values = [[0u8; 32]; P];
+    let from = digits_in(set, octets);
+    let to = [set.greatest() as u8; P];
+    ends(id, q, &from, &to, &starts, &mut values);
+    values
 }
 
 /// The public hash that a signature of `text` leads to, under a set, where the signature has the
@@ -165,11 +221,7 @@ pub fn recovered_hash<const W: u32, const P: usize, const LS: u32>(
     ensures { result ≡ candidate_of (record { w = W; p = P; ls = LS }) id.now q text.now sig.now }
 {
     let octets = signed_octets_in(set, id, q, &sig[4..36], text);
-    let mut hasher = opened(id, q, 0x8080);
-    for i in 0..P {
-        hasher.update(&recovered_end_in(set, id, q, &octets, sig, i));
-    }
-    hasher.finalize()
+    hash_of_ends(id, q, &recovered_ends_in(set, id, q, &octets, sig))
 }
 
 // Whether a signature has its set's length and the typecode `code`.

@@ -1,0 +1,27 @@
+-- Chains that run side by side, a few at a time.
+use Rattle.std.specs.Prelude.{ℕ, ◌≡◌, ◌≢◌, ◌<◌, List, [], slice_index, slice_index_or}
+use Rattle.lm_ots.specs.Chains.{chain}
+
+-- where chain i ends that begins at its place and value
+abbrev pub end_of : List ℕ → ℕ → List ℕ → List ℕ → List (List ℕ) → ℕ → List ℕ
+end_of id q from to starts i = chain id q i (slice_index from i) (slice_index to i) (slice_index_or starts i [])
+
+-- value i of a list
+abbrev pub value_in : List (List ℕ) → ℕ → List ℕ
+value_in values i = slice_index_or values i []
+
+-- value x is that of f
+abbrev pub Settled : (ℕ → List ℕ) → List (List ℕ) → ℕ → Type 0
+Settled f values x = slice_index_or values x [] ≡ f x
+
+-- none of the first n picks is x
+abbrev pub NotPicked : List ℕ → ℕ → ℕ → Type 0
+NotPicked picks n x = (k : ℕ) → k < n → slice_index picks k ≢ x
+
+-- value x is that of f, unless x still waits among the first n picks
+abbrev pub SettledOrWaiting : (ℕ → List ℕ) → List (List ℕ) → List ℕ → ℕ → ℕ → Type 0
+SettledOrWaiting f values picks n x = NotPicked picks n x → Settled f values x
+
+-- each of the four picks is below the count
+abbrev pub AreBelow : List ℕ → ℕ → Type 0
+AreBelow picks count = (k : ℕ) → k < 4 → slice_index picks k < count
