@@ -6,6 +6,15 @@ ghost use Rattle.lm_ots.specs.Runs.{AreBelow, Settled, end_of};
 
 use crate::four::{four_chains, four_secrets, store};
 
+// How many groups of four take all chains.
+fn group_count(count: usize) -> usize
+    requires { count ≤ 265 }
+    ensures all { count ≤ 4 * result }
+    ensures none_more { (g : ℕ) → g < result → 4 * g < count }
+{
+    (count + 3) / 4
+}
+
 // The chains of group `g`, of `count` chains. Behind the last chain the lanes run it once more.
 fn picks_of(g: usize, count: usize) -> [usize; 4]
     requires few { count ≤ 265 }
@@ -54,7 +63,7 @@ pub(crate) fn secrets(seed: &[u8; 32], id: &[u8; 16], q: u32, values: &mut [[u8;
     ensures { (i : ℕ) → i < length values.old → Settled (secret seed.now id.now q) values.new i }
 {
     let count = values.len();
-    for g in 0..(count + 3) / 4 {
+    for g in 0..group_count(count) {
         let picks = picks_of(g, count);
         let four = four_secrets(seed, id, q, &picks);
         store(values, &picks, &four);
@@ -76,7 +85,7 @@ pub(crate) fn ends(
     ensures { (i : ℕ) → i < length values.old → Settled (end_of id.now q from.now to.now starts.now) values.new i }
 {
     let count = values.len();
-    for g in 0..(count + 3) / 4 {
+    for g in 0..group_count(count) {
         let picks = picks_of(g, count);
         let from = places_of(from, &picks);
         let to = places_of(to, &picks);

@@ -115,7 +115,12 @@ pub(crate) fn four_chains(
 }
 
 /// The private values of four chains of one-time key `q` (RFC 8554, appendix A).
-pub(crate) fn four_secrets(seed: &[u8; 32], id: &[u8; 16], q: u32, picks: &[usize; 4]) -> [[u8; 32]; 4]
+pub(crate) fn four_secrets(
+    seed: &[u8; 32],
+    id: &[u8; 16],
+    q: u32,
+    picks: &[usize; 4],
+) -> [[u8; 32]; 4]
     requires { AreBelow picks.now 265 }
     ensures { (k : ℕ) → k < 4 → slice_index_or result k [] ≡ secret seed.now id.now q (slice_index picks.now k) }
 {

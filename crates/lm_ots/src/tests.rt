@@ -1,6 +1,8 @@
 // Keys and signatures that Bouncy Castle 1.72 made (LMOtsPrivateKey, with fixed seeds), each of
 // them computed once more by a Python program over hashlib.
 
+use crate::all::{ends, secrets};
+use crate::chain::{chain, secret_chain};
 use crate::{KeyPart, SignFault, candidate, public_hash, sign_ots, signature_leads_to_key};
 use cmp_ports::Octets;
 use sha2::{Digest, Sha256};
@@ -136,4 +138,26 @@ fn no_set_has_code_5(rt: HostRuntime) -> Result<(), Fail> {
     assert_eq!(rt; answer, Err(SignFault::BadSet));
     assert_eq!(rt; out.as_slice(), b"before".as_slice());
     Ok(())
+}
+
+// The chains of a test: where each begins and ends, chains that end at once beside whole ones, and a last group of three.
+const FROM: [u8; 11] = [0, 0, 0, 255, 7, 9, 200, 0, 3, 0, 254];
+
+const TO: [u8; 11] = [0, 255, 1, 255, 7, 3, 255, 16, 15, 255, 255];
+
+#[test]
+fn four_chains_at_once_and_one_by_one(rt: HostRuntime) {
+    let key = second_key(4);
+    let mut starts = [[0u8; 32]; 11];
+    secrets(&key.seed, &key.id, Q, &mut starts);
+    let mut values = [[0u8; 32]; 11];
+    ends(&key.id, Q, &FROM, &TO, &starts, &mut values);
+    for i in 0..11usize {
+        let number = i as u16;
+        let start = secret_chain(&key.seed, &key.id, Q, number, 0);
+        let from = u32::from(FROM[i]);
+        let to = u32::from(TO[i]);
+        assert_eq!(rt; starts[i], start);
+        assert_eq!(rt; values[i], chain(&key.id, Q, number, from, to, &start));
+    }
 }

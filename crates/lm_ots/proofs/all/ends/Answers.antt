@@ -1,6 +1,5 @@
 -- A group writes its values.
-use Rattle.std.proofs.Common.{◌≡◌, ℕ, List, ◌<◌, [], slice_index, slice_index_or, refl, arith}
-use Rattle.lm_ots.specs.Chains.{chain}
+use Rattle.std.proofs.Common.{refl, arith}
 use Rattle.lm_ots.specs.Runs.{end_of}
 use Rattle.lm_ots.proofs.FourLemmas.{group_more}
 use Rattle.lm_ots.proofs.all.ends.Goals as goal

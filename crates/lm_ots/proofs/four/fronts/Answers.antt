@@ -1,5 +1,4 @@
-use Rattle.std.proofs.Common.{◌≡◌, ◌<◌, ◌^◌, ℕ, List, slice_index, arith, subst}
-use Rattle.sha_lanes.specs.Blocks.{IsFrontOf}
+use Rattle.std.proofs.Common.{arith}
 use Rattle.sha_lanes.proofs.LaneLemmas.{below_four}
 use Rattle.lm_ots.proofs.four.fronts.Goals as goal
 

@@ -1,9 +1,9 @@
 -- A lane that takes the step goes on, and the others stay.
-use Rattle.std.proofs.Common.{◌≡◌, ℕ, ◌<◌, ◌≤◌, ◌+◌, ◌∷◌, ◌++◌, List, [], Bool, true, false, max, slice_index, slice_index_or, sym, ◌∙◌, ap, arith}
+use Rattle.std.proofs.Common.{◌≡◌, ℕ, ◌<◌, ◌≤◌, ◌∷◌, List, [], true, false, slice_index, slice_index_or, sym, ◌∙◌, ap, arith}
 use Rattle.sha2.specs.Sha256.{digest_bytes}
 use Rattle.sha_lanes.specs.Lanes.{lane}
 use Rattle.sha_lanes.proofs.LaneLemmas.{below_four}
-use Rattle.lm_ots.specs.Chains.{chain, prefix, step}
+use Rattle.lm_ots.specs.Chains.{prefix, step}
 use Rattle.lm_ots.proofs.FourLemmas.{pushed, walk_begins, walk_done, walk_step}
 use Rattle.lm_ots.proofs.four.walk.Goals as goal
 

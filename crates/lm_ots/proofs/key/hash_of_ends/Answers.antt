@@ -1,5 +1,5 @@
 -- The ends are taken in one behind the other.
-use Rattle.std.proofs.Common.{◌≡◌, ℕ, List, ◌++◌, length, ap, ◌∙◌, arith}
+use Rattle.std.proofs.Common.{◌≡◌, ℕ, ◌++◌, length, ap, ◌∙◌, arith}
 use Rattle.sha2.specs.Sha256.{sha256}
 use Rattle.lm_ots.specs.Chains.{prefix, joined, ends_hash}
 use Rattle.lm_ots.proofs.Parts.{held_none, held_more}

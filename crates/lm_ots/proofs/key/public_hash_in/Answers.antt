@@ -1,5 +1,5 @@
 -- The ends are those of all chains.
-use Rattle.std.proofs.Common.{◌≡◌, ℕ, length, ap, ◌∙◌, arith}
+use Rattle.std.proofs.Common.{ℕ, ap, ◌∙◌, arith}
 use Rattle.lm_ots.specs.Chains.{chain_end, ends_hash, joined, ots_key}
 use Rattle.lm_ots.proofs.key.public_hash_in.Goals as goal
 

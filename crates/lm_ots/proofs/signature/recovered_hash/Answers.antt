@@ -1,5 +1,5 @@
 -- The ends are those that the signature's chains lead to.
-use Rattle.std.proofs.Common.{◌≡◌, ℕ, List, length, ap, ◌∙◌, arith}
+use Rattle.std.proofs.Common.{ℕ, List, ap, ◌∙◌, arith}
 use Rattle.lm_ots.specs.Chains.{ends_hash, joined}
 use Rattle.lm_ots.specs.Signatures.{candidate_of, recovered_end}
 use Rattle.lm_ots.proofs.signature.recovered_hash.Goals as goal

@@ -1,5 +1,5 @@
 -- Each chain runs from its private value to its digit's place.
-use Rattle.std.proofs.Common.{◌≡◌, ℕ, List, ◌<◌, [], length, arith}
+use Rattle.std.proofs.Common.{ℕ, List, arith}
 use Rattle.std.proofs.lemmas.List.{get_or-replicate, length-replicate}
 use Rattle.lm_ots.specs.Signatures.{signed_value}
 use Rattle.lm_ots.proofs.FourLemmas.{end_is}

@@ -1,5 +1,5 @@
 -- The values are those of the signature.
-use Rattle.std.proofs.Common.{◌≡◌, ℕ, List, ◌++◌, ap, ◌∙◌}
+use Rattle.std.proofs.Common.{ℕ, List, ◌++◌, ap, ◌∙◌}
 use Rattle.std.proofs.lemmas.Result.{on_ok_weaker}
 use Rattle.lm_ots.specs.Signatures.{signed_value}
 use Rattle.lm_ots.proofs.FourLemmas.{joined_settled}
