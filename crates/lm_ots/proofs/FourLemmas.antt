@@ -114,3 +114,42 @@ pub joined_settled : (f : ℕ → List ℕ) (values : List (List ℕ)) (n : ℕ)
     → ((i : ℕ) → i < n → Settled f values i) → joined (value_in values) (length values) ≡ joined f n
 joined_settled f values n size settled =
     ap (joined (value_in values)) size ∙ joined-same (value_in values) f n settled
+
+-- one chain more waits
+pub picked_more : (f : ℕ → List ℕ) (values : List (List ℕ)) (picks : List ℕ) (count i x : ℕ) → length picks ≡ 4 → count < 4
+    → (x ≢ i → SettledOrWaiting f values picks count x) → SettledOrWaiting f values (set picks count i) (count + 1) x
+picked_more f values picks count i x size low before others =
+    before (λ e. others count (omega arith) (get_or-set_same picks count i 0 (omega arith) ∙ sym e))
+    (λ k lt e. others k (omega arith) (get_or-set_other picks count k i 0 (omega arith) ∙ e))
+
+pub below_more : (picks : List ℕ) (count i n : ℕ) → length picks ≡ 4 → count < 4 → i < n → AreBelow picks n → AreBelow (set picks count i) n
+below_more picks count i n size low within below k lt = elim (cases_lt k count) [
+  | inl before ↦
+      let e = get_or-set_other picks count k i 0 (omega arith) in
+      let b = below k lt in
+      omega arith
+  | inr rest ↦
+      elim (cases_lt count k) [
+        | inl behind ↦
+            let e = get_or-set_other picks count k i 0 (omega arith) in
+            let b = below k lt in
+            omega arith
+        | inr here ↦
+            let same : k ≡ count = omega arith in
+            rw same (rw (get_or-set_same picks count i 0 (omega arith)) within)
+      ]
+]
+
+-- the picks that were filled up
+pub rest_picked : (f : ℕ → List ℕ) (values : List (List ℕ)) (picks filled : List ℕ) (count x : ℕ) → count < 4
+    → ((k : ℕ) → k < 4 → k < count → slice_index filled k ≡ slice_index picks k)
+    → SettledOrWaiting f values picks count x → SettledOrWaiting f values filled 4 x
+rest_picked f values picks filled count x low same waits others =
+    waits (λ k lt e. others k (omega arith) (same k (omega arith) lt ∙ e))
+
+-- a chain of no step ends where it begins
+pub no_step : (id : List ℕ) (q : ℕ) (from to : List ℕ) (starts values : List (List ℕ)) (x : ℕ) → values ≡ starts
+    → slice_index to x - slice_index from x ≡ 0 → Settled (end_of id q from to starts) values x
+no_step id q from to starts values x is none =
+    ap (λ (v : List (List ℕ)). slice_index_or v x []) is
+    ∙ sym (chain-done id q x (slice_index from x) (slice_index to x) (slice_index_or starts x []) (omega arith))

@@ -1,10 +1,21 @@
 -- Chains that run side by side, a few at a time.
-use Rattle.std.specs.Prelude.{ℕ, ◌≡◌, ◌≢◌, ◌<◌, List, [], slice_index, slice_index_or}
+use Rattle.std.specs.Prelude.{ℕ, ◌≡◌, ◌≢◌, ◌-◌, ◌<◌, ◌≤◌, List, [], length, slice_index, slice_index_or}
 use Rattle.lm_ots.specs.Chains.{chain}
 
 -- where chain i ends that begins at its place and value
 abbrev pub end_of : List ℕ → ℕ → List ℕ → List ℕ → List (List ℕ) → ℕ → List ℕ
 end_of id q from to starts i = chain id q i (slice_index from i) (slice_index to i) (slice_index_or starts i [])
+
+-- how many steps chain i takes
+abbrev pub steps_of : List ℕ → List ℕ → ℕ → ℕ
+steps_of from to i = slice_index to i - slice_index from i
+
+-- places and values for each of so many chains
+pub record AreSizes (from to : List ℕ) (starts : List (List ℕ)) (count : ℕ) : Type 0 where
+  pub few : count ≤ 265
+  pub froms : length from ≡ count
+  pub tos : length to ≡ count
+  pub values : length starts ≡ count
 
 -- value i of a list
 abbrev pub value_in : List (List ℕ) → ℕ → List ℕ

@@ -1,15 +1,15 @@
--- A group writes its values.
-use Rattle.std.proofs.Common.{refl, arith}
-use Rattle.lm_ots.specs.Runs.{end_of}
-use Rattle.lm_ots.proofs.FourLemmas.{group_more}
+-- The chains of no step are at their ends.
+use Rattle.std.proofs.Common.{arith}
+use Rattle.sha_lanes.proofs.LaneLemmas.{below_four}
+use Rattle.lm_ots.proofs.FourLemmas.{no_step}
 use Rattle.lm_ots.proofs.all.ends.Goals as goal
 
-pub loop-g-preserved : goal.loop-g-preserved
-loop-g-preserved c =
-    let f = end_of c.args.id.now c.args.q c.args.from.now c.args.to.now c.args.starts.now in
-    group_more f _ _ _ c.loop-g.g _ (λ y. c.store.ensures f y (λ k low.
-    rw (c.four_chains-four.ensures k low, c.places_of-from.ensures k low, c.places_of-to.ensures k low, c.values_of.ensures k low) refl))
-    c.picks_of-picks.ensures.places c.loop-g.invariant
-
-pub returns : goal.returns
-returns c = λ i within. c.loop-g.invariant i (omega arith) (omega arith)
+pub lengths-init : goal.lengths-init
+lengths-init c =
+    record {
+      size = c.copy_from_slice.ensures.len;
+      count = omega arith;
+      below = below_four _ (omega arith) (omega arith) (omega arith) (omega arith);
+      none = λ x within steps others. no_step _ _ _ _ _ _ x c.copy_from_slice.ensures.after steps;
+      longer = λ x within more others. absurd (omega (arith, c.most_steps-steps.ensures x (omega arith)));
+    }
