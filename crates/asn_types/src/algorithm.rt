@@ -20,9 +20,10 @@ pub struct AlgorithmId<'a> {
 
 ghost use Rattle.asn_types.specs.Algorithm.{algorithm_of};
 
-/// Reads what stands in the SEQUENCE of an algorithm.
+/// Reads what stands in the SEQUENCE of an AlgorithmIdentifier (RFC 5280, 4.1.1.2). `BadForm` where the octets are no such
+/// content.
 #[tactic(auto, unfolding(crate::specs::Algorithm::algorithm_at))]
-pub(crate) fn algorithm(content: &[u8]) -> Result<AlgorithmId<'_>, BadForm>
+pub fn read_alg_content(content: &[u8]) -> Result<AlgorithmId<'_>, BadForm>
     ensures { Gives algorithm_of result (algorithm_at content.now) }
 {
     let (oid, rest) = oid_field(content)?;
@@ -35,7 +36,7 @@ fn algorithm_element<'a>(e: &Element<'a>) -> Result<AlgorithmId<'a>, BadForm>
     ensures { Gives algorithm_of result (if e.now.tag == 0x30 then algorithm_at e.now.content.now else None) }
 {
     if e.tag == 0x30 {
-        algorithm(e.content)
+        read_alg_content(e.content)
     } else {
         Err(BadForm)
     }

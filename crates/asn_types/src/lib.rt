@@ -14,7 +14,7 @@ mod spki;
 mod template;
 mod time;
 
-pub use algorithm::{AlgorithmId, read_alg, write_alg};
+pub use algorithm::{AlgorithmId, read_alg, read_alg_content, write_alg};
 pub use asn_fields::BadForm;
 pub use cmp_time::{LAST_GENERALIZED, LAST_UTC, generalized, utc};
 pub use common_name::write_cn;

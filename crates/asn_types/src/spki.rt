@@ -5,7 +5,7 @@ ghost use Rattle.asn_fields.specs.Fields.{Gives};
 ghost use Rattle.asn_types.specs.Key.{Key, FitsKey, key_content, key_at};
 ghost use Rattle.asn_types.specs.Algorithm.{algorithm_of};
 
-use crate::algorithm::{AlgorithmId, algorithm, put_algorithm};
+use crate::algorithm::{AlgorithmId, put_algorithm, read_alg_content};
 use crate::parts::{plain_bits, put_plain_bits};
 use asn_fields::{BadForm, field, sole};
 use cmp_ports::Octets;
@@ -29,7 +29,7 @@ pub(crate) fn key_inside(content: &[u8]) -> Result<Spki<'_>, BadForm>
     ensures whole { IfOk result (λ s. s.content.now ≡ content.now) }
 {
     let (sequence, rest) = field(0x30, content)?;
-    let alg = algorithm(sequence.content)?;
+    let alg = read_alg_content(sequence.content)?;
     let string = sole(0x03, rest)?;
     let key = plain_bits(&string)?;
     Ok(Spki { alg, key, content })

@@ -8,7 +8,7 @@ ghost use Rattle.asn_types.specs.Key.{key_of, key_at};
 ghost use Rattle.asn_types.specs.Extension.{is_extensions};
 ghost use Rattle.asn_types.specs.Template.{TemplateForm, FitsTemplate, template_content, tested_at, anything_at, name_at, template_at, name_of, extensions_of};
 
-use crate::algorithm::{AlgorithmId, algorithm};
+use crate::algorithm::{AlgorithmId, read_alg_content};
 use crate::extension::{Extensions, extensions_inside};
 use crate::name::{Name, is_name};
 use crate::spki::{Spki, key_inside};
@@ -123,7 +123,7 @@ fn name_field(tag: u8, bytes: &[u8]) -> Result<(Option<Name<'_>>, &[u8]), BadFor
 fn algorithm_field(tag: u8, bytes: &[u8]) -> Result<(Option<AlgorithmId<'_>>, &[u8]), BadForm>
     ensures { Gives (λ r. (option_map algorithm_of r.0, r.1.now)) result (optional_with algorithm_at tag bytes.now) }
 {
-    field_inside!(tag, bytes, algorithm)
+    field_inside!(tag, bytes, read_alg_content)
 }
 
 fn key_field(tag: u8, bytes: &[u8]) -> Result<(Option<Spki<'_>>, &[u8]), BadForm>

@@ -1,14 +1,13 @@
 -- What each verdict means, by the spelling of a message (RFC 9810, 5.1), PBMAC1 (RFC 8018, 7.1; RFC 9481, 6.1.1) and its
--- MAC over the protected part (RFC 9810, 5.1.3). No reader is named but the two that ask for a later form and for the
--- parameters of PBMAC1.
+-- MAC over the protected part (RFC 9810, 5.1.3). No reader is named but the one that asks for a later form.
 use Rattle.std.specs.Prelude.{◌≡◌, ℕ, ◌⊎◌, ◌↔◌, IsTrue, IsFalse, List, Option, Some, None}
 use Rattle.pbmac.specs.Algorithm.{Algorithm}
-use Rattle.pbmac.specs.Params.{params_at}
 use Rattle.pbmac.specs.Mac.{MacOk}
 use Rattle.pbmac.specs.declared.params.MacParams.{MacParams}
 use Rattle.cmp_frame.specs.Frame.{Framed, protected_part}
 use Rattle.cmp_frame.specs.LaterForm.{has_later_form}
 use Rattle.frame_grammar.specs.FrameSpelling.{IsFrame}
+use Rattle.pbmac_grammar.specs.Pbmac1.{IsPbmac1}
 use Rattle.cmpca.specs.Verdict.{verdict_of}
 use Rattle.cmpca.specs.declared.verdict.Verdict.{Verdict}
 use Rattle.cmpca.specs.declared.verdict.Verdict.TheVariants.{Verified, LaterForm, BadDataFormat, Unprotected, BadAlg, WrongMac}
@@ -28,7 +27,7 @@ pub record IsProtected (input : List ℕ) (frame : Framed) (alg : Algorithm) (ma
 pub record IsMaced (input : List ℕ) (frame : Framed) (params : MacParams) (mac : List ℕ) : Type 0 where
   pub alg : Algorithm
   pub protected : IsProtected input frame alg mac
-  pub pbmac1 : params_at alg ≡ Some params
+  pub pbmac1 : IsPbmac1 alg params.salt params.rounds
 
 -- The MAC is that of the header and the body under the secret.
 abbrev pub MacHolds : List ℕ → Framed → MacParams → List ℕ → Type 0
@@ -55,7 +54,7 @@ pub record IsBadAlg (input : List ℕ) : Type 0 where
   pub alg : Algorithm
   pub mac : List ℕ
   pub protected : IsProtected input frame alg mac
-  pub other : params_at alg ≡ None
+  pub other : (salt : List ℕ) (rounds : ℕ) → IsPbmac1 alg salt rounds → ⊥
 
 -- refused badMessageCheck: the MAC is another
 pub record IsWrongMac (secret input : List ℕ) : Type 0 where

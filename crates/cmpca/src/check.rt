@@ -8,12 +8,14 @@ use crate::verdict::Verdict;
 use cmp_frame::{Frame, has_later_form, part_front, read_frame};
 use frame_grammar::frame_is_spelled;
 use pbmac::{MacParams, mac_ok_over, read_params};
+use pbmac_grammar::params_are_spelled;
 
 /// A verdict is that on a message exactly where the message has its cause, by the spelling of a message.
 pub fn verdict_is_caused()
     ensures { VerdictIsCaused }
 {
     frame_is_spelled();
+    params_are_spelled();
 }
 
 /// The verdict on a message under a secret. It takes no memory.

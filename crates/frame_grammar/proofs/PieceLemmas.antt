@@ -1,5 +1,6 @@
 -- The pieces of a header are read exactly where they are spelled.
 use Rattle.std.proofs.Common.{◌≡◌, ◌≢◌, ℕ, ◌+◌, ◌%◌, ◌^◌, ◌<◌, ◌++◌, Bool, true, false, cond, eqb, IsTrue, List, [], ◌∷◌, length, Option, Some, None, Result, Ok, Err, append-nil, eqb-true, refl, sym, ap, subst, ◌∙◌, arith, rules}
+use Rattle.std.specs.Prelude.{unwrap_or}
 use Rattle.std.proofs.lemmas.Bool.Decides.{nat_tests}
 use Rattle.der_base.specs.Element.{element, length_octets, IsElement}
 use Rattle.der_base.specs.Reading.{Part, part, element_at, sole_of, whole_at}
@@ -10,7 +11,9 @@ use Rattle.der_base.proofs.ElementLemmas.{IsTaken, element_takes, element_reads,
 use Rattle.asn_fields.specs.Fields.{◌>>=◌, ok_of, field_at, sole_at}
 use Rattle.asn_fields.specs.Forms.{IsRead}
 use Rattle.asn_fields.proofs.FieldLemmas.{none_some, some_same, bound, passed, IsTagged, field_takes, field_again, sole_takes, sole_reads, content_form}
-use Rattle.pbmac.specs.Algorithm.{Algorithm, any_at, alg_inside, alg_at}
+use Rattle.asn_types.specs.Algorithm.{IfAny}
+use Rattle.asn_types.proofs.AlgorithmLemmas.{algorithm_is_read}
+use Rattle.pbmac.specs.Algorithm.{Algorithm, alg_inside, alg_at}
 use Rattle.cmp_frame.specs.Name.{is_general, general_of, general_at}
 use Rattle.cmp_frame.specs.Header.{version_at, sole_alg_at, sole_octets_at}
 use Rattle.frame_grammar.specs.Spelling.{any_spelling, FitsAny, alg_content, alg_spelling, FitsAlgorithm, FitsGeneral, FitsOctets}
@@ -74,56 +77,7 @@ general_again p rest fits =
     ap (λ (r : Result (Part × List ℕ) DerFault). ok_of r >>= general_of) (read ∙ ap (λ (q : Part). Ok (q, rest)) whole)
     ∙ general_test p rest fits.general
 
--- one element of any type, or none
-abbrev nil : List ℕ
-nil = []
-
-sole_more : (q : Part) (next : ℕ) (rest : List ℕ) → sole_of (Ok (q, next ∷ rest)) ≡ Err Trailing
-sole_more q next rest = grind (arith, nat_tests)
-
-sole_ok : (r : Result (Part × List ℕ) DerFault) (p : Part) → sole_of r ≡ Ok p → r ≡ Ok (p, [])
-sole_ok (Ok (q, [])) p e = let same : q ≡ p = cc in rw same refl
-sole_ok (Ok (q, next ∷ rest)) p e = let over = sole_more q next rest in cc
-sole_ok (Err f) p e = cc
-
-any_some_takes : (bytes : List ℕ) (p : Part) → whole_at bytes ≡ Ok p → FitsAny (Some bytes) × (p.whole ≡ bytes)
-unfolding whole_at
-any_some_takes bytes p e =
-    let t = element_takes bytes p [] (sole_ok (element_at bytes) p e) in
-    let all : p.whole ≡ bytes = sym (t.parts ∙ append-nil p.whole) in
-    ((p.tag, (p.content, subst (λ (l : List ℕ). IsElement l p.tag p.content) all t.element_is)), all)
-
-pub any_takes : (bytes : List ℕ) (o : Option (List ℕ)) → any_at bytes ≡ Some o → FitsAny o × (bytes ≡ any_spelling o)
-unfolding any_at
-any_takes [] o e = subst (λ (z : Option (List ℕ)). FitsAny z × (nil ≡ any_spelling z)) (some_same None o e) (tt, refl)
-any_takes (first ∷ rest) o e =
-    bound (FitsAny o × (first ∷ rest ≡ any_spelling o)) (ok_of (whole_at (first ∷ rest))) (λ (p : Part). Some (Some p.whole)) o e (λ p ok last.
-    let w = any_some_takes (first ∷ rest) p (ok_some (whole_at (first ∷ rest)) p ok) in
-    subst (λ (z : Option (List ℕ)). FitsAny z × (first ∷ rest ≡ any_spelling z)) (ap Some (sym w.1) ∙ some_same (Some p.whole) o last) (w.0, refl))
-
-whole_reads : (bytes content : List ℕ) (tag : ℕ) → IsElement bytes tag content → whole_at bytes ≡ Ok (part tag content)
-unfolding whole_at
-whole_reads bytes content tag is = ap sole_of (element_reads bytes bytes content [] tag is (sym (append-nil bytes)))
-
-any_some : (whole : List ℕ) (p : Part) → whole_at whole ≡ Ok p → 0 < length whole → p.whole ≡ whole → any_at whole ≡ Some (Some whole)
-unfolding any_at
-any_some [] p e some w = absurd (omega (arith, some))
-any_some (first ∷ rest) p e some w = ap (λ (r : Result Part DerFault). ok_of r >>= λ q. Some (Some q.whole)) e ∙ ap (λ (l : List ℕ). Some (Some l)) w
-
-some_element : (tag : ℕ) (content : List ℕ) → 0 < length (element tag content)
-unfolding element
-some_element tag content = omega arith
-
-pub any_again : (o : Option (List ℕ)) → FitsAny o → any_at (any_spelling o) ≡ Some o
-unfolding any_at
-any_again None fits = refl
-any_again (Some whole) (tag, (content, is)) =
-    any_some whole (part tag content) (whole_reads whole content tag is) (omega (arith, ap length is.spelled, some_element tag content)) (sym is.spelled)
-
 -- an algorithm
-low_oid : 6 % 32 ≢ 31
-low_oid h = cc
-
 low_sequence : 0x30 % 32 ≢ 31
 low_sequence h = cc
 
@@ -133,25 +87,34 @@ record IsAlgorithm (content : List ℕ) (a : Algorithm) : Type 0 where
   params : FitsAny a.params
   spelled : content ≡ alg_content a
 
+any_fits : (o : Option (List ℕ)) → IfAny o → FitsAny o
+any_fits None h = tt
+any_fits (Some whole) h = (h.tag, (h.content, h.alone))
+
+fits_any : (o : Option (List ℕ)) → FitsAny o → IfAny o
+fits_any None h = tt
+fits_any (Some whole) (tag, (content, is)) = record { tag = tag; content = content; alone = is }
+
+any_same : (o : Option (List ℕ)) → unwrap_or o [] ≡ any_spelling o
+any_same None = refl
+any_same (Some whole) = refl
+
 alg_takes : (content : List ℕ) (a : Algorithm) → alg_inside content ≡ Some a → IsAlgorithm content a
-unfolding alg_inside oid_at alg_content
+unfolding alg_content
 alg_takes content a e =
-    bound (IsAlgorithm content a) (field_at 0x06 content) (λ (f : Part × List ℕ). ok_of (oid_at f.0) >>= λ oid. (any_at f.1 >>= λ params. Some (record { oid = oid; params = params }))) a e (λ f read e1.
-    bound (IsAlgorithm content a) (ok_of (oid_at f.0)) (λ (oid : List ℕ). any_at f.1 >>= λ params. Some (record { oid = oid; params = params })) a e1 (λ oid ok e2.
-    bound (IsAlgorithm content a) (any_at f.1) (λ (params : Option (List ℕ)). Some (record { oid = oid; params = params })) a e2 (λ params any last.
-    ok_by (IsAlgorithm content a) (eqb f.0.tag 0x06) (is_oid f.0.content) f.0.content oid ok (λ s t value.
-    let tagged = field_takes 0x06 content f.0 f.1 read in
-    let w = any_takes f.1 params any in
-    let parts : content ≡ element 0x06 oid ++ any_spelling params = tagged.parts ∙ ap (λ (l : List ℕ). l ++ f.1) (tagged.element_is.spelled ∙ ap (element 0x06) value) ∙ ap (λ (l : List ℕ). element 0x06 oid ++ l) w.1 in
-    let is : IsAlgorithm content (record { oid = oid; params = params }) = record { oid = subst (λ (l : List ℕ). IsTrue (is_oid l)) value t; counted = subst (λ (l : List ℕ). length l < 2 ^ 32) value tagged.element_is.counted; params = w.0; spelled = parts } in
-    subst (λ (z : Algorithm). IsAlgorithm content z) (some_same _ a last) is))))
+    let t = algorithm_is_read.takes content a e in
+    record {
+      oid = t.0.identifier;
+      counted = t.0.counted;
+      params = any_fits a.params t.0.params;
+      spelled = t.1 ∙ ap (λ (l : List ℕ). element 0x06 a.oid ++ l) (any_same a.params);
+    }
 
 alg_again : (a : Algorithm) → IsTrue (is_oid a.oid) → length a.oid < 2 ^ 32 → FitsAny a.params → alg_inside (alg_content a) ≡ Some a
-unfolding alg_inside oid_at alg_content
+unfolding alg_content
 alg_again a t h fits =
-    ap (λ (r : Option (Part × List ℕ)). r >>= λ f. (ok_of (oid_at f.0) >>= λ oid. (any_at f.1 >>= λ params. Some (record { oid = oid; params = params })))) (field_again 0x06 a.oid (any_spelling a.params) low_oid h)
-    ∙ ap (λ (r : Result (List ℕ) DerFault). ok_of r >>= λ oid. (any_at (any_spelling a.params) >>= λ params. Some (record { oid = oid; params = params }))) (value_again 0x06 is_oid (λ (l : List ℕ). l) a.oid t)
-    ∙ ap (λ (r : Option (Option (List ℕ))). r >>= λ params. Some (record { oid = a.oid; params = params })) (any_again a.params fits)
+    ap alg_inside (ap (λ (l : List ℕ). element 0x06 a.oid ++ l) (sym (any_same a.params)))
+    ∙ algorithm_is_read.again a (record { identifier = t; counted = h; params = fits_any a.params fits })
 
 sole_alg_takes : (bytes : List ℕ) (a : Algorithm) → sole_alg_at bytes ≡ Some a → FitsAlgorithm a × (bytes ≡ alg_spelling a)
 unfolding sole_alg_at alg_at alg_spelling

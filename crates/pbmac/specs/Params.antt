@@ -1,9 +1,9 @@
 -- PBMAC1-params (RFC 8018, A.5) with PBKDF2 (A.2) and HMAC-SHA-256, of a key of 32 octets, 8 to 64 octets of salt and 1 to
 -- 200,000 rounds.
-use Rattle.std.specs.Prelude.{◌≡◌, ℕ, ◌+◌, ◌*◌, Bool, true, false, ◌&&◌, ◌||◌, ◌==◌, nat_lt, nat_le, if◌then◌else◌, List, [], ◌∷◌, length, Option, Some, None}
+use Rattle.std.specs.Prelude.{ℕ, ◌+◌, ◌*◌, Bool, true, ◌&&◌, nat_lt, nat_le, if◌then◌else◌, List, [], ◌∷◌, length, Option, Some, None}
 use Rattle.std.specs.Str.{bytes_eq}
 use Rattle.der_base.specs.Reading.{Part}
-use Rattle.der_base.specs.Values.{integer_at, octets_at}
+use Rattle.der_base.specs.Values.{integer_at}
 use Rattle.asn_fields.specs.Fields.{◌>>=◌, ok_of, field_at, sole_at, optional_at}
 use Rattle.pbmac.specs.Algorithm.{Algorithm, alg_inside}
 use Rattle.pbmac.specs.declared.params.MacParams.{MacParams}

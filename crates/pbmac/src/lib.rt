@@ -6,8 +6,9 @@ mod fault;
 mod mac;
 mod params;
 
-pub use algorithm_id::{AlgorithmId, read_alg};
+pub use algorithm_id::read_alg;
 pub use asn_fields::BadForm;
+pub use asn_types::AlgorithmId;
 pub use fault::BadAlg;
 pub use mac::{mac_ok, mac_ok_over, make_mac, make_mac_over};
 pub use params::{MacParams, read_params};

@@ -5,9 +5,9 @@ ghost use Rattle.asn_fields.specs.Fields.{Gives};
 ghost use Rattle.pbmac.specs.Algorithm.{algorithm_of};
 ghost use Rattle.pbmac.specs.Params.{is_blank, is_hmac_sha256, rounds_of, key_length_at, salt_at, count_at, sole_hmac_at, kdf_inside, inside_params, scheme_inside, params_at, pbkdf2_oid, pbmac1, accepted};
 
-use crate::algorithm_id::{AlgorithmId, read_alg_inside};
 use crate::fault::BadAlg;
 use asn_fields::{field, optional, sole};
+use asn_types::{AlgorithmId, HMAC_SHA256, PBKDF2, PBMAC1, read_alg_content};
 use cmp_ports::Short;
 use der_base::integer;
 
@@ -20,15 +20,6 @@ pub struct MacParams {
 
 /// The greatest count of rounds that is accepted, so that a message costs a verifier little.
 const MAX_ROUNDS: u32 = 200_000;
-
-/// id-PBMAC1, 1.2.840.113549.1.5.14.
-const PBMAC1: &[u8] = b"\x2a\x86\x48\x86\xf7\x0d\x01\x05\x0e";
-
-/// id-PBKDF2, 1.2.840.113549.1.5.12.
-const PBKDF2: &[u8] = b"\x2a\x86\x48\x86\xf7\x0d\x01\x05\x0c";
-
-/// id-hmacWithSHA256, 1.2.840.113549.2.9.
-const HMAC_SHA256: &[u8] = b"\x2a\x86\x48\x86\xf7\x0d\x02\x09";
 
 /// The element NULL.
 const NULL: &[u8] = b"\x05\x00";
@@ -131,7 +122,7 @@ fn read_sole_hmac(bytes: &[u8]) -> Result<(), BadAlg>
     ensures { Gives (λ u. []) result (sole_hmac_at bytes.now) }
 {
     let element = sole(0x30, bytes)?;
-    let algorithm = read_alg_inside(element.content)?;
+    let algorithm = read_alg_content(element.content)?;
     if is_hmac_sha256(&algorithm) {
         Ok(())
     } else {
@@ -178,7 +169,7 @@ fn read_scheme_inside(content: &[u8]) -> Result<MacParams, BadAlg>
     ensures bound { IfOk result (λ p. 1 ≤ p.rounds) }
 {
     let (element, rest) = field(0x30, content)?;
-    let kdf = read_alg_inside(element.content)?;
+    let kdf = read_alg_content(element.content)?;
     read_sole_hmac(rest)?;
     read_kdf(&kdf)
 }
