@@ -15,13 +15,14 @@ python3 "$here/mac_vectors.py" >"$out/hmac.txt"
 python3 "$here/frame_vectors.py" "$out/frame.der" >"$out/frames.txt"
 python3 "$here/change_vectors.py" >"$out/changes.txt"
 python3 "$here/history_vectors.py" >"$out/histories.txt"
+python3 "$here/rule_vectors.py" >"$out/rules.txt"
 python3 "$here/near_certs.py" >"$out/near_certs.txt"
 if command -v openssl >/dev/null; then
     "$here/openssl_certs.sh" >"$out/openssl_certs.txt"
 else
     echo "skipped: openssl_certs.txt (no openssl)"
 fi
-echo "hmac.txt, frames.txt, frame.der, changes.txt, histories.txt and near_certs.txt are made"
+echo "hmac.txt, frames.txt, frame.der, changes.txt, histories.txt, rules.txt and near_certs.txt are made"
 
 jars=${BCJARS:-/usr/share/java}
 path=$jars/bcprov.jar:$jars/bcutil.jar

@@ -1,0 +1,16 @@
+//! Which change may come next, decided by plain walks over the whole history. Each answer is the rule's of deal_model.
+#![tactic(auto)]
+
+mod allowed;
+mod credentials;
+mod forms;
+mod founding;
+mod requests;
+mod rules;
+mod senders;
+mod sizes;
+#[cfg(test)]
+mod tests;
+
+pub use allowed::{is_allowed, is_legal};
+pub use forms::is_change;
