@@ -1,3 +1,4 @@
 pub mod Entries
 pub mod Beginning
 pub mod Worlds
+pub mod Runs
