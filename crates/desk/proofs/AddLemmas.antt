@@ -1,0 +1,77 @@
+-- What an append leaves of a desk.
+use Rattle.std.proofs.Common.{◌≡◌, ◌⊎◌, inl, inr, ℕ, ◌+◌, Bool, true, false, List, [], ◌∷◌, ◌++◌, length, Option, Some, None, Result, Ok, Err, ◌<◌, ◌≤◌, refl, sym, ◌∙◌, subst, arith}
+use Rattle.std.specs.Prelude.{IfSome, IsTrue, is_some, is_ok, OnErr, if◌then◌else◌}
+use Rattle.std.proofs.Math.Logic.{∥∥₁_map}
+use Rattle.journal_core.specs.declared.journal.Journal.{Journal}
+use Rattle.journal_core.specs.Log as log
+use Rattle.journal_core.specs.Log.{log_of}
+use Rattle.journal_core.specs.Journal.{IsKept, IsAtRest, is_doubtful, is_past_limit}
+use Rattle.deal_changes.specs.declared.change.Change.{Change}
+use Rattle.deal_changes.specs.Spelling.{spelling}
+use Rattle.deal_model.specs.Views.{History}
+use Rattle.deal_model.specs.Rules.{Allowed, Legal}
+use Rattle.deal_model.proofs.Histories.{legal_more}
+use Rattle.journal_core.specs.Log.{IsBeforeOrAfter}
+use Rattle.desk.specs.Images.{magic, spellings, doubtful, IsDoubt, RecoversWith, Keeps}
+use Rattle.desk.specs.Calls.{Fits, is_full}
+use Rattle.desk.proofs.Kept.{spellings_push, either_with}
+use Rattle.desk.proofs.LawfulLemmas.{is_past, allowed}
+
+-- nothing is in doubt
+pub rests : (h : History) (doubt : Option Change) (journal : Journal) (images : List ℕ → Type 0) → doubt ≡ None → Keeps h doubt journal images → IsAtRest magic (spellings h) journal images
+rests h doubt journal images none keeps = subst (λ (d : Option Change). Keeps h d journal images) none keeps
+
+pub still : (h : History) (doubt : Option Change) (journal : Journal) (images : List ℕ → Type 0) → doubt ≡ None → IsAtRest magic (spellings h) journal images → Keeps h doubt journal images
+still h doubt journal images none rest = subst (λ (d : Option Change). Keeps h d journal images) (sym none) rest
+
+pub added_keeps : (h items : History) (c : Change) (doubt : Option Change) (entry : List ℕ) (journal : Journal) (images : List ℕ → Type 0) → doubt ≡ None → entry ≡ spelling c → items ≡ h ++ c ∷ []
+    → IsAtRest magic (spellings h ++ entry ∷ []) journal images → Keeps items doubt journal images
+added_keeps h items c doubt entry journal images none spelled grown rest =
+    let there = subst (λ (e : List ℕ). IsAtRest magic (spellings h ++ e ∷ []) journal images) spelled rest in
+    let here = subst (λ (l : List (List ℕ)). IsAtRest magic l journal images) (sym (spellings_push h c)) there in
+    still items doubt journal images none (subst (λ (l : History). IsAtRest magic (spellings l) journal images) (sym grown) here)
+
+pub added_lawful : {P : Type 0} (h items : History) (c : Change) (doubt : Option Change) → doubt ≡ None → items ≡ h ++ c ∷ [] → Allowed h c → ∥ Legal h × P ∥₁ → ∥ Legal items × IfSome doubt (Allowed items) ∥₁
+added_lawful h items c doubt none grown a t =
+    ∥∥₁_map t (λ l. (subst Legal (sym grown) (legal_more h c l.0 a), subst (λ (d : Option Change). IfSome d (Allowed items)) (sym none) tt))
+
+pub doubtful_lawful : {P : Type 0} (h : History) (c : Change) → Allowed h c → ∥ Legal h × P ∥₁ → ∥ Legal h × IfSome (Some c) (Allowed h) ∥₁
+doubtful_lawful h c a t = ∥∥₁_map t (λ l. (l.0, a))
+
+pub clear_lawful : {P : Type 0} (h : History) → ∥ Legal h × P ∥₁ → ∥ Legal h × IfSome None (Allowed h) ∥₁
+clear_lawful h t = ∥∥₁_map t (λ l. (l.0, tt))
+
+not_true : (b : Bool) → (IsTrue b → ⊥) → b ≡ false
+not_true true f = absurd (f refl)
+not_true false f = refl
+
+pub has_room : (h : History) (c : Change) (entry : List ℕ) → entry ≡ spelling c → Fits h c → (IsTrue (is_past_limit (length (spellings h)) (length (log_of magic (spellings h))) (length entry + 5)) → ⊥) → Allowed h c
+has_room h c entry spelled f never =
+    allowed h c f (not_true (is_full h c) (λ full. never (subst (λ (e : List ℕ). IsTrue (is_past_limit (length (spellings h)) (length (log_of magic (spellings h))) (length e + 5))) (sym spelled) (is_past h c ∙ full))))
+
+pub has_no_room : (h : History) (c : Change) (entry : List ℕ) → entry ≡ spelling c → IsTrue (is_past_limit (length (spellings h)) (length (log_of magic (spellings h))) (length entry + 5)) → IsTrue (is_full h c)
+has_no_room h c entry spelled past = sym (is_past h c) ∙ subst (λ (e : List ℕ). IsTrue (is_past_limit (length (spellings h)) (length (log_of magic (spellings h))) (length e + 5))) spelled past
+
+pub own_left : (h : History) (c : Change) (entry image : List ℕ) → entry ≡ spelling c → log.Recovers magic image (spellings h) ⊎ log.Recovers magic image (spellings h ++ entry ∷ []) → RecoversWith h (λ x. x ≡ c) image
+own_left h c entry image spelled left = either_with h c image (λ x. x ≡ c) refl (subst (λ (e : List ℕ). log.Recovers magic image (spellings h) ⊎ log.Recovers magic image (spellings h ++ e ∷ [])) spelled left)
+
+pub doubt_keeps : (h : History) (c : Change) (entry : List ℕ) (journal : Journal) (images : List ℕ → Type 0) → entry ≡ spelling c → IsKept magic (spellings h) entry journal images × (is_doubtful journal ≡ true) → Keeps h (Some c) journal images
+doubt_keeps h c entry journal images spelled o = (subst (λ (e : List ℕ). IsKept magic (spellings h) e journal images) spelled o.0, o.1)
+
+-- a push where there is room
+pub pushed : {T E X : Type 0} (result : Result T E) (items old : List X) (x : X) (len capacity : ℕ) → items ≡ (if is_ok result then old ++ x ∷ [] else old) → OnErr result (capacity ≤ len) → len < capacity → items ≡ old ++ x ∷ []
+pushed (Ok t) items old x len capacity grown full room = grown
+pushed (Err e) items old x len capacity grown full room = absurd (omega (arith, full, room))
+
+-- what settling leaves at each moment
+pub doubt_left : (h : History) (doubt : Option Change) (image : List ℕ) → is_some doubt ≡ true → IsBeforeOrAfter magic (spellings h) (doubtful doubt) image → RecoversWith h (IsDoubt doubt) image
+doubt_left h None image some left = absurd (cc some)
+doubt_left h (Some c) image some left = either_with h c image (IsDoubt (Some c)) refl left
+
+-- what says more of the change behind a history says less
+pub with_less : (h : History) (A B : Change → Type 0) (image : List ℕ) → ((c : Change) → A c → B c) → RecoversWith h A image → RecoversWith h B image
+with_less h A B image less (inl before) = inl before
+with_less h A B image less (inr longer) = inr (longer.0, less longer.0 longer.1, longer.2)
+
+pub same_less : (h g : History) (A B : Change → Type 0) (image : List ℕ) → g ≡ h → ((c : Change) → A c → B c) → RecoversWith g A image → RecoversWith h B image
+same_less h g A B image same less left = with_less h A B image less (subst (λ (l : History). RecoversWith l A image) same left)

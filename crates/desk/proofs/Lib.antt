@@ -1,0 +1,5 @@
+pub mod DueLemmas
+pub mod Kept
+pub mod LawfulLemmas
+pub mod AddLemmas
+pub mod FitLemmas

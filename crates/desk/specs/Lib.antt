@@ -1,0 +1,4 @@
+pub mod Images
+pub mod Due
+pub mod Calls
+pub mod Mounted

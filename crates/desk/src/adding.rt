@@ -1,0 +1,99 @@
+//! Adds one change to the history: first on the disk, then in memory.
+ghost use Rattle.std.specs.Prelude.{◌≡◌, ◌≢◌, ◌<◌, ◌≤◌, ◌^◌, ◌++◌, ◌∷◌, [], length, MatchOption, IfOk, OnOk, OnErr, IsSome, Some, None, vec_len, vec_capacity};
+ghost use Rattle.cmp_ports.specs.Disk.{LeavesOnly};
+ghost use Rattle.cmp_ports.specs.Faults.{Rose, HasCause};
+ghost use Rattle.deal_changes.specs.Spelling.{spelling, IsWriteable};
+ghost use Rattle.desk.specs.Images.{RecoversWith, IsDoubt, DoubtOr};
+ghost use Rattle.desk.specs.Calls.{Fits, IsAdded};
+
+use crate::answers::Added;
+use crate::desk::Desk;
+use cmp_ports::Disk;
+use deal_model::{Change, write_change};
+use journal_core::{AppendFault, DiskFault, Record};
+use std::alloc::{AllocError, Global};
+
+/// The most octets of a payload.
+const MOST_OCTETS: usize = 0x4000_0000;
+
+/// The record of a change, or none where it has more octets than a log may have.
+fn record_of(alloc: Global, c: &Change) -> Result<Option<Record>, AllocError>
+    requires { IsWriteable c.now }
+    ensures { IfOk result (λ r. MatchOption r (1073741824 < length (spelling c.now)) (λ entry. entry ≡ spelling c.now)) }
+{
+    let octets = write_change(alloc, c)?;
+    if octets.len() > MOST_OCTETS {
+        return Ok(None);
+    }
+    Ok(Some(Record::new(alloc, octets.as_slice())?))
+}
+
+impl<D: Disk> Desk<D> {
+    /// Settles that what is in doubt doesn't stand on the disk.
+    fn settle(&mut self) -> Result<(), DiskFault>
+        ensures same { self.new.history ≡ self.old.history }
+        ensures clear { OnOk result (self.new.doubt ≡ None) }
+        ensures still { OnErr result (IsSome self.old.doubt × (self.new.doubt ≡ self.old.doubt)) }
+        ensures moments { LeavesOnly D.moment D.left_since self.old.disk self.new.disk (RecoversWith self.old.history.items (IsDoubt self.old.doubt)) }
+        ensures cause { HasCause (D.faults self.old.disk) (D.faults self.new.disk) result }
+    {
+        if self.doubt.is_none() {
+            return Ok(());
+        }
+        match self.journal.settle(&mut self.disk) {
+            Ok(()) => {
+                self.doubt = None;
+                Ok(())
+            }
+            Err(fault) => Err(fault),
+        }
+    }
+
+    /// Appends the record of a change where nothing is in doubt. Takes no memory.
+    fn append(&mut self, c: Change, entry: &Record) -> Added
+        requires fits { Fits self.old.history.items c }
+        requires clear { self.old.doubt ≡ None }
+        requires spelled { entry.now ≡ spelling c }
+        requires room { vec_len self.old.history < vec_capacity self.old.history }
+        ensures ends { IsAdded self.old.history.items None c result self.new.history.items self.new.doubt }
+        ensures some { result ≢ Added.NoMemory }
+        ensures moments { LeavesOnly D.moment D.left_since self.old.disk self.new.disk (RecoversWith self.old.history.items (λ x. x ≡ c)) }
+        ensures fault { result ≡ Added.DiskFault → Rose (D.faults self.old.disk) (D.faults self.new.disk) }
+        ensures later { D.faults self.old.disk ≤ D.faults self.new.disk }
+    {
+        match self.journal.append(&mut self.disk, entry) {
+            Ok(()) => match self.history.push(c) {
+                Ok(()) => Added::Done,
+                Err(_) => unreachable!(),
+            },
+            Err(AppendFault::Full) => Added::Full,
+            Err(AppendFault::DiskFault) => {
+                self.doubt = Some(c);
+                Added::DiskFault
+            }
+        }
+    }
+
+    /// Adds a change that may come next. What is in doubt is settled first, and all memory is taken before.
+    pub(crate) fn add(&mut self, c: Change) -> Added
+        requires { Fits self.old.history.items c }
+        ensures ends { IsAdded self.old.history.items self.old.doubt c result self.new.history.items self.new.doubt }
+        ensures moments { LeavesOnly D.moment D.left_since self.old.disk self.new.disk (RecoversWith self.old.history.items (DoubtOr self.old.doubt (λ x. x ≡ c))) }
+        ensures fault { result ≡ Added.DiskFault → Rose (D.faults self.old.disk) (D.faults self.new.disk) }
+        ensures later { D.faults self.old.disk ≤ D.faults self.new.disk }
+    {
+        let alloc = *self.history.allocator();
+        let record = match record_of(alloc, &c) {
+            Ok(Some(record)) => record,
+            Ok(None) => return Added::Full,
+            Err(_) => return Added::NoMemory,
+        };
+        if self.history.reserve(1).is_err() {
+            return Added::NoMemory;
+        }
+        match self.settle() {
+            Ok(()) => self.append(c, &record),
+            Err(_) => Added::DiskFault,
+        }
+    }
+}

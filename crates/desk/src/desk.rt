@@ -1,0 +1,45 @@
+//! A desk: one history, on its disk and in memory.
+ghost use Rattle.std.specs.Prelude.{◌≡◌, ◌-◌, ◌≤◌, length, IfSome, Some, slice_get};
+ghost use Rattle.deal_model.specs.Rules.{Allowed, Legal};
+ghost use Rattle.desk.specs.Images.{Keeps, Images};
+
+use cmp_ports::Disk;
+use deal_model::Change;
+use journal_core::Journal;
+
+/// The history of a service, on a disk that the desk keeps. After a call that failed at the disk one change may be in
+/// doubt: it may stand on the disk or not, and the next call that writes settles that it doesn't.
+#[derive(Drop)]
+pub struct Desk<D: Disk> {
+    pub(crate) disk: D,
+    pub(crate) journal: Journal,
+    pub(crate) history: Vec<Change>,
+    pub(crate) doubt: Option<Change>,
+    ghost kept: { ∥ Keeps history.items doubt journal (D.images disk) ∥₁ },
+    ghost lawful: { ∥ Legal history.items × IfSome doubt (Allowed history.items) ∥₁ },
+}
+
+impl<D: Disk> Desk<D> {
+    /// The number of changes.
+    pub fn length(&self) -> u64
+        ensures { result ≡ length self.now.history.items }
+    {
+        self.history.len() as u64
+    }
+
+    /// The change at a place, from 1 on.
+    pub fn change_at(&self, place: u64) -> &Change
+        requires low { 1 ≤ place }
+        requires high { place ≤ length self.now.history.items }
+        ensures { slice_get self.now.history.items (place - 1) ≡ Some result.now }
+    {
+        &self.history[place as usize - 1]
+    }
+
+    /// The disk.
+    pub fn into_disk(self) -> D
+        ensures { result ≡ self.disk }
+    {
+        self.disk
+    }
+}

@@ -1,0 +1,11 @@
+//! The desk of the enrolment service: one history on a disk, whose every answer is a walk over the whole list.
+#![tactic(auto)]
+
+mod adding;
+mod answers;
+mod desk;
+mod due;
+mod lapsing;
+
+pub use answers::{FoundFault, Lapsed, Listing, Ordered};
+pub use desk::Desk;
