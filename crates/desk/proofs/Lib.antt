@@ -3,3 +3,4 @@ pub mod Kept
 pub mod LawfulLemmas
 pub mod AddLemmas
 pub mod FitLemmas
+pub mod FoundLemmas

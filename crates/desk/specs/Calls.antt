@@ -1,26 +1,20 @@
 -- How the desk's calls end, from the history h and the change d in doubt before to those after, g and e.
-use Rattle.std.specs.Prelude.{◌≡◌, ◌⊎◌, ℕ, ◌+◌, ◌<◌, ◌≤◌, ◌^◌, Bool, true, false, not, ◌||◌, nat_le, nat_lt, List, [], ◌∷◌, ◌++◌, length, Option, Some, None, IsSome, IsTrue}
-use Rattle.std.specs.List.{list_any, list_all}
+use Rattle.std.specs.Prelude.{◌≡◌, ◌⊎◌, ℕ, ◌+◌, ◌≤◌, ◌^◌, Bool, ◌||◌, nat_le, nat_lt, List, [], ◌∷◌, ◌++◌, length, Option, Some, None, IsSome, IsTrue}
 use Rattle.cmp_ports.specs.declared.order.Order.{Order}
 use Rattle.cmp_ports.specs.declared.order.Order.TheVariants as orders
-use Rattle.deal_changes.specs.declared.change.Kind.{Kind}
-use Rattle.deal_changes.specs.declared.change.Who.TheVariants.{Listed}
-use Rattle.deal_changes.specs.declared.change.Credential.{Credential}
 use Rattle.deal_changes.specs.declared.change.Change.{Change}
-use Rattle.deal_changes.specs.declared.change.Change.TheVariants.{Enlist, Dismiss, Release, Deny, Lapse}
+use Rattle.deal_changes.specs.declared.change.Change.TheVariants.{Release, Deny, Lapse}
 use Rattle.deal_changes.specs.Spelling.{IsChange}
 use Rattle.deal_changes.specs.Times.{time_of_change}
 use Rattle.deal_model.specs.declared.states.DealState.TheVariants.{Held}
-use Rattle.deal_model.specs.Views.{History, time_of, is_found, is_empty, is_entry, is_listed, is_dismissed, transaction_state}
-use Rattle.deal_model.specs.Rules.{IsNamed, stands, Holds, size_of, log_size, Allowed}
+use Rattle.deal_model.specs.Views.{History, time_of, is_found, is_empty, transaction_state}
+use Rattle.deal_model.specs.Rules.{Holds, size_of, log_size, Allowed}
 use Rattle.desk.specs.declared.answers.Added.{Added}
 use Rattle.desk.specs.declared.answers.Added.TheVariants as added
 use Rattle.desk.specs.declared.answers.Lapsed.{Lapsed}
 use Rattle.desk.specs.declared.answers.Lapsed.TheVariants as lapsed
 use Rattle.desk.specs.declared.answers.Ordered.{Ordered}
 use Rattle.desk.specs.declared.answers.Ordered.TheVariants as ordered
-use Rattle.desk.specs.declared.answers.Listing.{Listing}
-use Rattle.desk.specs.declared.answers.Listing.TheVariants as listing
 use Rattle.desk.specs.Due.{AllAfter, IsDue}
 
 -- ---- one change
@@ -94,49 +88,9 @@ IsOrdered h d order time ordered.Full g e = IsObeyed h d order time added.Full g
 IsOrdered h d order time ordered.DiskFault g e = IsObeyed h d order time added.DiskFault g e
 IsOrdered h d order time ordered.NoMemory g e = IsSame h d g e
 
--- ---- credentials
-
--- each credential is of its form, and stands once in the list
-abbrev pub AreFit : List Credential → Type 0
-AreFit [] = Unit {0}
-AreFit (c ∷ cs) = IsNamed c.kind c.kid c.material × (c.rights < 32) × (list_any (is_entry c.kind c.kid) cs ≡ false) × AreFit cs
-
--- the credential is in use
-abbrev pub is_used : History → Credential → Bool
-is_used h c = stands h c.kind c.kid
-
--- none of these is in use
-abbrev pub AreFree : History → List Credential → Type 0
-AreFree h list = list_any (is_used h) list ≡ false
-
--- the credential with this index is in use, and none before it
-pub record IsFirstUsed (h : History) (list : List Credential) (index : ℕ) : Type 0 where
-  pub before : List Credential
-  pub used : Credential
-  pub behind : List Credential
-  pub parts : list ≡ before ++ used ∷ behind
-  pub offset : index ≡ length before
-  pub free : AreFree h before
-  pub stands : IsTrue (is_used h used)
-
-abbrev pub IsEnlisted : History → Option Change → List Credential → ℕ → Listing → History → Option Change → Type 0
-IsEnlisted h d list time (listing.Done place) g e = IsAdded h d (Enlist time list) added.Done g e × (place ≡ length g)
-IsEnlisted h d list time (listing.InUse index) g e = IsFirstUsed h list index × IsSame h d g e
-IsEnlisted h d list time listing.Unknown g e = ⊥
-IsEnlisted h d list time listing.Already g e = ⊥
-IsEnlisted h d list time listing.Full g e = AreFree h list × IsAdded h d (Enlist time list) added.Full g e
-IsEnlisted h d list time listing.DiskFault g e = AreFree h list × IsAdded h d (Enlist time list) added.DiskFault g e
-IsEnlisted h d list time listing.NoMemory g e = IsSame h d g e
-
--- the credential is listed and not dismissed
-abbrev pub CanDismiss : History → Kind → List ℕ → Type 0
-CanDismiss h kind kid = IsTrue (is_listed h kind kid) × (is_dismissed h kind kid ≡ false)
-
-abbrev pub IsDismissed : History → Option Change → Kind → List ℕ → ℕ → Listing → History → Option Change → Type 0
-IsDismissed h d kind kid time (listing.Done place) g e = IsAdded h d (Dismiss time (Listed kind kid)) added.Done g e × (place ≡ length g)
-IsDismissed h d kind kid time (listing.InUse index) g e = ⊥
-IsDismissed h d kind kid time listing.Unknown g e = (is_listed h kind kid ≡ false) × IsSame h d g e
-IsDismissed h d kind kid time listing.Already g e = IsTrue (is_listed h kind kid) × IsTrue (is_dismissed h kind kid) × IsSame h d g e
-IsDismissed h d kind kid time listing.Full g e = CanDismiss h kind kid × IsAdded h d (Dismiss time (Listed kind kid)) added.Full g e
-IsDismissed h d kind kid time listing.DiskFault g e = CanDismiss h kind kid × IsAdded h d (Dismiss time (Listed kind kid)) added.DiskFault g e
-IsDismissed h d kind kid time listing.NoMemory g e = IsSame h d g e
+-- how an order ends whose change was added so
+abbrev pub order_end : Added → ℕ → Ordered
+order_end added.Done place = ordered.Done place
+order_end added.Full place = ordered.Full
+order_end added.DiskFault place = ordered.DiskFault
+order_end added.NoMemory place = ordered.NoMemory

@@ -5,7 +5,9 @@ mod adding;
 mod answers;
 mod desk;
 mod due;
+mod founding;
 mod lapsing;
+mod ordering;
 
-pub use answers::{FoundFault, Lapsed, Listing, Ordered};
+pub use answers::{FoundFault, Lapsed, Ordered};
 pub use desk::Desk;

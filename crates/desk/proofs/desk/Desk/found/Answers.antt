@@ -1,0 +1,7 @@
+use Rattle.desk.proofs.FoundLemmas.{founded_keeps, founded_lawful, found_small}
+use Rattle.desk.proofs.LawfulLemmas.{writeable}
+use Rattle.desk.specs.Mounted.{founding}
+use Rattle.desk.proofs.desk.Desk.found.Goals as goal
+
+pub first_change-requires : goal.first_change-requires
+first_change-requires g c = writeable (founding c.args.settings.now c.args.now) c.requires.form
