@@ -4,3 +4,4 @@ pub mod LawfulLemmas
 pub mod AddLemmas
 pub mod FitLemmas
 pub mod FoundLemmas
+pub mod FirstLemmas

@@ -36,6 +36,13 @@ impl<D: Disk> Desk<D> {
         &self.history[place as usize - 1]
     }
 
+    /// What a desk is: each image of its disk recovers to its history, or to that with the change in doubt behind it. The
+    /// history is legal, and the change in doubt may come next.
+    pub fn stands_for_its_disk(&self)
+        ensures images { Images (D.images self.now.disk) self.now.history.items self.now.doubt }
+        ensures lawful { ∥ Legal self.now.history.items × IfSome self.now.doubt (Allowed self.now.history.items) ∥₁ }
+    {}
+
     /// The disk.
     pub fn into_disk(self) -> D
         ensures { result ≡ self.disk }

@@ -8,6 +8,8 @@ mod due;
 mod founding;
 mod lapsing;
 mod ordering;
+#[cfg(test)]
+mod tests;
 
 pub use answers::{FoundFault, Lapsed, Ordered};
 pub use desk::Desk;

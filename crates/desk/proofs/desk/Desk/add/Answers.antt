@@ -41,8 +41,8 @@ returns-in-Ok-clause-moments g c =
     let P = RecoversWith s.history.items (DoubtOr s.doubt (λ x. x ≡ c.args.c)) in
     let settled : c.settle.new.self.history.items ≡ s.history.items = ap (λ v. v.items) c.settle.ensures.same ∙ c.reserve.ensures.items in
     joins g.D.Disk.moment g.D.Disk.left_since s.disk c.settle.new.self.disk c.append.new.self.disk P
-      (weaker g.D.Disk.moment g.D.Disk.left_since _ _ _ P c.settle.ensures.moments (λ image left. same_less s.history.items _ (IsDoubt s.doubt) (DoubtOr s.doubt (λ x. x ≡ c.args.c)) image c.reserve.ensures.items (λ x e. inl e) left))
-      (weaker g.D.Disk.moment g.D.Disk.left_since _ _ _ P c.append.ensures.moments (λ image left. same_less s.history.items _ (λ x. x ≡ c.args.c) (DoubtOr s.doubt (λ x. x ≡ c.args.c)) image settled (λ x e. inr e) left))
+    (weaker g.D.Disk.moment g.D.Disk.left_since _ _ _ P c.settle.ensures.moments (λ image left. same_less s.history.items _ (IsDoubt s.doubt) (DoubtOr s.doubt (λ x. x ≡ c.args.c)) image c.reserve.ensures.items (λ x e. inl e) left))
+    (weaker g.D.Disk.moment g.D.Disk.left_since _ _ _ P c.append.ensures.moments (λ image left. same_less s.history.items _ (λ x. x ≡ c.args.c) (DoubtOr s.doubt (λ x. x ≡ c.args.c)) image settled (λ x e. inr e) left))
 
 pub returns-in-Err-settle-clause-moments : goal.returns-in-Err-settle-clause-moments
 returns-in-Err-settle-clause-moments g c =

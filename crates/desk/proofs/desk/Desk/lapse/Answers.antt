@@ -38,7 +38,7 @@ returns-clause-moments g c =
     let due = subst (λ (l : History). IsDue l c.event_time-time.result c.in-Some.due.tid) seen c.in-Some.ensures in
     let Own = DoubtOr s.doubt (IsLapse h (event_time h c.args.now)) in
     weaker g.D.Disk.moment g.D.Disk.left_since _ _ _ (RecoversWith h Own) c.add-added.ensures.moments
-      (λ image left. with_less h (DoubtOr s.doubt (λ x. x ≡ Lapse c.event_time-time.result c.in-Some.due.tid)) Own image (λ x is. ⊎_elim (λ e. inl e) (λ e. inr (c.in-Some.due.tid, subst (λ (t : ℕ). IsDue h t c.in-Some.due.tid) time due, e ∙ ap (λ (t : ℕ). Lapse t c.in-Some.due.tid) time)) is) left)
+    (λ image left. with_less h (DoubtOr s.doubt (λ x. x ≡ Lapse c.event_time-time.result c.in-Some.due.tid)) Own image (λ x is. ⊎_elim (λ e. inl e) (λ e. inr (c.in-Some.due.tid, subst (λ (t : ℕ). IsDue h t c.in-Some.due.tid) time due, e ∙ ap (λ (t : ℕ). Lapse t c.in-Some.due.tid) time)) is) left)
 
 pub returns-clause-ends : goal.returns-clause-ends
 returns-clause-ends g c =

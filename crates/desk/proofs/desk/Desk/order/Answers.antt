@@ -36,7 +36,7 @@ returns-clause-moments g c =
     let is = subst (λ (t : ℕ). IsOrder c.args.order.now t c.in-Some.change) time c.in-Some.ensures.1 in
     let Own = DoubtOr s.doubt (IsOrder c.args.order.now (event_time h c.args.now)) in
     weaker g.D.Disk.moment g.D.Disk.left_since _ _ _ (RecoversWith h Own) c.add-added.ensures.moments
-      (λ image left. with_less h (DoubtOr s.doubt (λ x. x ≡ c.in-Some.change)) Own image (λ x either. ⊎_elim (λ e. inl e) (λ e. inr (subst (IsOrder c.args.order.now (event_time h c.args.now)) (sym e) is)) either) left)
+    (λ image left. with_less h (DoubtOr s.doubt (λ x. x ≡ c.in-Some.change)) Own image (λ x either. ⊎_elim (λ e. inl e) (λ e. inr (subst (IsOrder c.args.order.now (event_time h c.args.now)) (sym e) is)) either) left)
 
 pub returns-clause-ends : goal.returns-clause-ends
 returns-clause-ends g c =

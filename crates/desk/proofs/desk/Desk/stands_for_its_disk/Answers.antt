@@ -1,0 +1,7 @@
+use Rattle.desk.proofs.Kept.{keeps_out, keeps_images}
+use Rattle.desk.proofs.desk.Desk.stands_for_its_disk.Goals as goal
+
+pub returns-clause-images : goal.returns-clause-images
+returns-clause-images g c =
+    let s = c.args.self.now in
+    keeps_images s.history.items s.doubt s.journal (g.D.Disk.images s.disk) (keeps_out s.history.items s.doubt s.journal (g.D.Disk.images s.disk) s.kept)
