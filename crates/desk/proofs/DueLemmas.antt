@@ -1,13 +1,12 @@
 -- The next certificate, change by change.
-use Rattle.std.proofs.Common.{◌≡◌, ℕ, ◌<◌, ◌≤◌, Bool, true, false, List, [], ◌∷◌, ◌++◌, Option, Some, None, refl, sym, ◌∙◌, ap, subst, append_assoc, arith}
-use Rattle.std.specs.Prelude.{IfSome, nat_le, if◌then◌else◌}
+use Rattle.std.proofs.Common.{◌≡◌, ℕ, ◌<◌, ◌≤◌, List, [], ◌∷◌, ◌++◌, Option, Some, None, refl, sym, ◌∙◌, ap, subst, append_assoc, arith}
+use Rattle.std.specs.Prelude.{IfSome, nat_le}
 use Rattle.std.specs.List.{AllByRecursion}
 use Rattle.std.proofs.lemmas.Bool.{cond_both, leb-true, leb-false}
 use Rattle.deal_changes.specs.declared.change.Change.{Change}
-use Rattle.deal_changes.specs.Times.{tid_of}
 use Rattle.deal_model.specs.Views.{History}
 use Rattle.desk.specs.declared.due.Due.{Due}
-use Rattle.desk.specs.Due.{deadline_in, AllAfter, AllFrom, IsNext, NoneWaits, IsFoundNext, IsWaiting, sooner}
+use Rattle.desk.specs.Due.{deadline_in, AllAfter, IsNext, NoneWaits, IsFoundNext, IsWaiting, sooner}
 
 pub all_both : {X : Type 0} (P : X → Type 0) (xs ys : List X) → AllByRecursion P xs → AllByRecursion P ys → AllByRecursion P (xs ++ ys)
 all_both P [] ys h i = i

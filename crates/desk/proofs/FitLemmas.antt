@@ -1,15 +1,15 @@
 -- What the calls add may come next.
-use Rattle.std.proofs.Common.{◌≡◌, ◌⊎◌, inl, inr, ⊎_elim, ℕ, ◌+◌, ◌<◌, ◌≤◌, ◌^◌, Bool, true, false, List, [], ◌∷◌, ◌++◌, length, Option, Some, None, refl, sym, ◌∙◌, ap, subst, arith}
+use Rattle.std.proofs.Common.{◌≡◌, ⊎_elim, ℕ, ◌≤◌, Bool, true, false, List, [], ◌∷◌, ◌++◌, length, Option, Some, None, refl, sym, subst, arith}
 use Rattle.std.specs.List.{AllByRecursion}
-use Rattle.std.specs.Prelude.{max, find, ◌||◌, if◌then◌else◌}
+use Rattle.std.specs.Prelude.{find, if◌then◌else◌}
 use Rattle.std.proofs.Math.Logic.{∥∥₁_elim}
-use Rattle.std.proofs.Math.Nat.{le-max_left, le-max_right, max-le}
+use Rattle.std.proofs.Math.Nat.{le-max_right, max-le}
 use Rattle.std.proofs.Props.{props}
 use Rattle.std.proofs.lemmas.Option.{same_Some}
 use Rattle.deal_changes.specs.declared.change.Change.{Change}
 use Rattle.deal_changes.specs.declared.change.Change.TheVariants.{Found, Enlist, Dismiss, Grant, Hold, Release, Deny, Turned, Polled, Settled, Revoke, Lapse}
 use Rattle.deal_changes.specs.Spelling.{IsChange, IsTid}
-use Rattle.deal_changes.specs.Times.{tid_of, time_of_change}
+use Rattle.deal_changes.specs.Times.{tid_of}
 use Rattle.deal_model.specs.declared.states.DealState.{DealState}
 use Rattle.deal_model.specs.declared.states.DealState.TheVariants.{Unused, Held, Released, Denied, Open, Closed, Other}
 use Rattle.std.specs.List.{list_any}
@@ -21,12 +21,11 @@ use Rattle.deal_model.specs.declared.states.CertificateState.{CertificateState}
 use Rattle.deal_model.specs.declared.states.CertificateState.TheVariants as certificates
 use Rattle.deal_model.specs.Views.{History, time_of, transaction_state, after_grant, open_or_closed, ungranted_state, is_grant_for, is_hold_for, is_deny_for, is_release_for, is_revoke_for}
 use Rattle.deal_model.specs.Rules.{Legal, IsOpenUntil}
-use Rattle.desk.specs.Due.{event_time, deadline_of, deadline_in, IsNext, IsDue}
+use Rattle.desk.specs.Due.{event_time, deadline_of, deadline_in, IsDue}
 use Rattle.desk.specs.declared.answers.Added.{Added}
 use Rattle.desk.specs.declared.answers.Added.TheVariants.{Done, Full, DiskFault, NoMemory}
 use Rattle.desk.specs.declared.answers.Lapsed.TheVariants as Lapsed
-use Rattle.desk.specs.declared.answers.Ordered.TheVariants as Ordered
-use Rattle.desk.specs.Calls.{Fits, IsAdded, IsLapsed, lapse_end, order_change, IsOrder, Awaits, IsOrdered, order_end}
+use Rattle.desk.specs.Calls.{Fits, IsAdded, IsLapsed, lapse_end, IsOrder, Awaits, IsOrdered, order_end}
 use Rattle.desk.proofs.LawfulLemmas.{timely_out, forms_out, some_out, time_bound}
 
 tid_prop : (tid : List ℕ) → IsProp (IsTid tid)

@@ -1,18 +1,17 @@
 -- What a desk keeps has one proof, so it may be taken out of the type.
-use Rattle.std.proofs.Common.{◌≡◌, ◌≢◌, ◌⊎◌, inl, inr, ℕ, ◌+◌, ◌<◌, ◌≤◌, ◌^◌, Bool, false, List, [], ◌∷◌, ◌++◌, length, get_or, take, drop, map, Option, Some, None, refl, sym, ◌∙◌, ap, subst, arith, append_assoc, append-nil, length-append}
+use Rattle.std.proofs.Common.{◌≡◌, ◌≢◌, ◌⊎◌, inl, inr, ℕ, ◌+◌, ◌<◌, ◌≤◌, ◌^◌, Bool, false, List, [], ◌∷◌, ◌++◌, length, get_or, drop, Option, Some, None, refl, sym, ◌∙◌, ap, subst, arith, append_assoc, append-nil, length-append}
 use Rattle.std.proofs.Math.Logic.{∥∥₁_elim}
 use Rattle.std.proofs.Props.{props}
-use Rattle.std.proofs.lemmas.List.{take_at, drop_at, map-append}
+use Rattle.std.proofs.lemmas.List.{drop_at, map-append}
 use Rattle.std.proofs.lemmas.Bool.{cases_eq}
 use Rattle.std.proofs.lemmas.Grind.{common_steps}
-use Rattle.cmp_ports.specs.Disk.{Every}
 use Rattle.journal_core.specs.declared.journal.Journal.{Journal}
 use Rattle.journal_core.specs.declared.journal.Doubt.{Doubt}
 use Rattle.journal_core.specs.declared.journal.Doubt.TheVariants.{Clear, Before, Gate}
 use Rattle.journal_core.specs.Log.{framed, records, log_of, ClosedAfter, AreSmall}
 use Rattle.journal_core.specs.Log as log
 use Rattle.journal_core.specs.Staged.{StagedAfter}
-use Rattle.journal_core.specs.Journal.{IsInState, IsKeptAs, IsKept, is_doubtful, is_in_doubt}
+use Rattle.journal_core.specs.Journal.{IsInState, IsKeptAs, is_in_doubt}
 use Rattle.deal_changes.specs.declared.change.Change.{Change}
 use Rattle.deal_changes.specs.Spelling.{spelling}
 use Rattle.deal_model.specs.Views.{History}

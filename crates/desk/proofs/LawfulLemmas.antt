@@ -1,20 +1,20 @@
 -- What a desk's lawful history shows.
-use Rattle.std.proofs.Common.{◌≡◌, ◌≢◌, ◌⊎◌, inl, inr, ℕ, zero, suc, ◌+◌, ◌-◌, ◌<◌, ◌≤◌, ◌^◌, Bool, true, false, List, [], ◌∷◌, ◌++◌, length, get_or, map, Option, Some, None, refl, sym, ◌∙◌, ap, subst, arith, append_assoc, append-nil, length-append}
+use Rattle.std.proofs.Common.{◌≡◌, ◌≢◌, ℕ, suc, ◌+◌, ◌-◌, ◌<◌, ◌≤◌, ◌^◌, false, List, [], ◌∷◌, ◌++◌, length, get_or, refl, ◌∙◌, ap, arith, length-append}
 use Rattle.std.specs.List.{AllByRecursion}
 use Rattle.std.specs.Int.{w32, to_be_bytes}
-use Rattle.std.specs.Prelude.{max, nat_le, nat_lt, ◌||◌, IsTrue, sum_by}
+use Rattle.std.specs.Prelude.{nat_le, nat_lt, ◌||◌, IsTrue, sum_by}
 use Rattle.std.proofs.Math.Logic.{∥∥₁_elim}
 use Rattle.std.proofs.Props.{props}
 use Rattle.std.proofs.lemmas.List.{length-map}
 use Rattle.std.proofs.lemmas.List.Sums.{sum_by-cons}
-use Rattle.std.proofs.lemmas.Bool.{or_parts, leb-false, ltb-false, leb-true}
+use Rattle.std.proofs.lemmas.Bool.{or_parts, leb-false, ltb-false}
 use Rattle.journal_core.specs.Log.{framed, records, log_of}
 use Rattle.journal_core.specs.Journal.{is_past_limit}
 use Rattle.deal_changes.specs.declared.change.Change.{Change}
 use Rattle.deal_changes.specs.declared.change.Change.TheVariants.{Found, Enlist, Dismiss, Grant, Hold, Release, Deny, Turned, Polled, Settled, Revoke, Lapse}
-use Rattle.deal_changes.specs.Spelling.{spelling, IsChange, IsTid, IsWriteable}
+use Rattle.deal_changes.specs.Spelling.{spelling, IsChange, IsWriteable}
 use Rattle.deal_changes.specs.Times.{time_of_change}
-use Rattle.deal_model.specs.Views.{History, time_of, is_empty, IsTimely, AreTimely}
+use Rattle.deal_model.specs.Views.{History, time_of, is_empty, AreTimely}
 use Rattle.deal_model.specs.Rules.{size_of, log_size, Allowed, AllowedFrom, Legal}
 use Rattle.desk.specs.Images.{magic, spellings}
 use Rattle.desk.specs.Calls.{Fits, is_full}

@@ -1,4 +1,3 @@
-use Rattle.std.proofs.Common.{inl, inr}
 use Rattle.cmp_ports.specs.Moments.{weaker, joins}
 use Rattle.desk.specs.Mounted.{IsBegun}
 use Rattle.desk.proofs.FoundLemmas.{prepared_left, begun_left}

@@ -6,7 +6,6 @@ use Rattle.deal_model.specs.Rules.{Allowed, Legal}
 use Rattle.desk.specs.Images.{RecoversWith, IsDoubt, DoubtOr, Keeps}
 use Rattle.desk.proofs.Kept.{keeps_out, keeps_images}
 use Rattle.desk.proofs.AddLemmas.{with_less, same_less}
-use Rattle.desk.proofs.LawfulLemmas.{writeable, too_long}
 use Rattle.desk.proofs.desk.Desk.add.Goals as goal
 
 pub returns-in-Ok-None-clause-moments : goal.returns-in-Ok-None-clause-moments

@@ -1,4 +1,4 @@
-use Rattle.std.proofs.Common.{◌≡◌, ◌++◌, ◌∷◌, [], List, ℕ, Some, None, Ok, Err, inl, refl, sym, ◌∙◌, ap, subst}
+use Rattle.std.proofs.Common.{◌≡◌, ◌++◌, ◌∷◌, [], Err, inl, refl, ap, subst}
 use Rattle.cmp_ports.specs.Moments.{weaker}
 use Rattle.journal_core.specs.declared.fault.AppendFault.{AppendFault}
 use Rattle.journal_core.specs.Journal.{IsAppended}

@@ -1,4 +1,3 @@
-use Rattle.desk.proofs.FoundLemmas.{founded_keeps, founded_lawful, found_small}
 use Rattle.desk.proofs.LawfulLemmas.{writeable}
 use Rattle.desk.specs.Mounted.{founding}
 use Rattle.desk.proofs.desk.Desk.found.Goals as goal

@@ -1,14 +1,13 @@
-use Rattle.std.proofs.Common.{◌≡◌, inl, inr, ⊎_elim, List, ℕ, length, sym, ◌∙◌, ap, subst}
+use Rattle.std.proofs.Common.{◌≡◌, inl, inr, ⊎_elim, ℕ, length, sym, ◌∙◌, ap, subst}
 use Rattle.cmp_ports.specs.Moments.{started, weaker}
-use Rattle.deal_changes.specs.declared.change.Change.{Change}
 use Rattle.deal_changes.specs.declared.change.Change.TheVariants.{Lapse}
 use Rattle.deal_model.specs.Views.{History}
 use Rattle.desk.specs.Images.{RecoversWith, IsDoubt, DoubtOr}
-use Rattle.desk.specs.Due.{event_time, AllAfter, IsDue, IsLapse}
-use Rattle.desk.specs.Calls.{Fits, IsAdded, IsLapsed, lapse_end}
+use Rattle.desk.specs.Due.{event_time, IsDue, IsLapse}
+use Rattle.desk.specs.Calls.{Fits, IsLapsed, lapse_end}
 use Rattle.desk.proofs.Kept.{keeps_out, keeps_images}
 use Rattle.desk.proofs.AddLemmas.{with_less}
-use Rattle.desk.proofs.FitLemmas.{fits_lapse, lapsed_ends, lapse_failed}
+use Rattle.desk.proofs.FitLemmas.{fits_lapse, lapsed_ends}
 use Rattle.desk.proofs.desk.Desk.lapse.Goals as goal
 
 pub returns-in_default-clause-moments : goal.returns-in_default-clause-moments

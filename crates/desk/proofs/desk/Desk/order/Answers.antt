@@ -1,6 +1,5 @@
-use Rattle.std.proofs.Common.{◌≡◌, inl, inr, ⊎_elim, List, ℕ, length, sym, ◌∙◌, ap, subst}
+use Rattle.std.proofs.Common.{◌≡◌, inl, inr, ⊎_elim, ℕ, length, sym, ◌∙◌, ap, subst}
 use Rattle.cmp_ports.specs.Moments.{started, weaker}
-use Rattle.deal_changes.specs.declared.change.Change.{Change}
 use Rattle.deal_model.specs.Views.{History}
 use Rattle.desk.specs.Images.{RecoversWith, IsDoubt, DoubtOr}
 use Rattle.desk.specs.Due.{event_time}

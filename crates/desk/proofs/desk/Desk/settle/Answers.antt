@@ -1,4 +1,4 @@
-use Rattle.std.proofs.Common.{Some, None, not, ap, ◌∙◌}
+use Rattle.std.proofs.Common.{not, ap, ◌∙◌}
 use Rattle.journal_core.specs.Journal.{is_doubtful}
 use Rattle.cmp_ports.specs.Moments.{started, weaker}
 use Rattle.desk.specs.Images.{magic, spellings, doubtful, RecoversWith, IsDoubt}
