@@ -19,8 +19,9 @@ python3 "$here/rule_vectors.py" >"$out/rules.txt"
 python3 "$here/near_certs.py" >"$out/near_certs.txt"
 if command -v openssl >/dev/null; then
     "$here/openssl_certs.sh" >"$out/openssl_certs.txt"
+    "$here/pkcs10.sh" >"$out/pkcs10.txt"
 else
-    echo "skipped: openssl_certs.txt (no openssl)"
+    echo "skipped: openssl_certs.txt and pkcs10.txt (no openssl)"
 fi
 echo "hmac.txt, frames.txt, frame.der, changes.txt, histories.txt, rules.txt and near_certs.txt are made"
 

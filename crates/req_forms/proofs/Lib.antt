@@ -1,0 +1,9 @@
+pub mod AttributeLemmas
+pub mod ControlLemmas
+pub mod FieldLemmas
+pub mod Pkcs10Lemmas
+pub mod PossessionLemmas
+pub mod RequestLemmas
+pub mod SizeLemmas
+pub mod WrittenLemmas
+pub mod WrittenP10Lemmas
