@@ -9,6 +9,8 @@ mod laws;
 mod run;
 mod signing;
 mod steps;
+#[cfg(test)]
+mod tests;
 mod world;
 
 pub use first_world::founded;
