@@ -5,3 +5,4 @@ pub mod AddLemmas
 pub mod FitLemmas
 pub mod FoundLemmas
 pub mod FirstLemmas
+pub mod ListLemmas

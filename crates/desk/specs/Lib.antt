@@ -1,4 +1,5 @@
 pub mod Images
 pub mod Due
 pub mod Calls
+pub mod Listings
 pub mod Mounted

@@ -63,3 +63,28 @@ pub enum Ordered {
     /// Memory ran out. Nothing was done.
     NoMemory,
 }
+
+/// How credentials are listed or dismissed.
+#[derive(Clone, Copy, Debug, PartialEq, Eq)]
+pub enum Listing {
+    /// It was done by the change at this place.
+    Done {
+        /// The length of the history with the change.
+        place: u64,
+    },
+    /// A credential of the list is in use.
+    InUse {
+        /// The index of the first such credential, from 0 on.
+        index: u32,
+    },
+    /// No such credential was ever listed.
+    Unknown,
+    /// The credential was dismissed before.
+    Already,
+    /// The journal is full.
+    Full,
+    /// The disk failed: a change is in doubt.
+    DiskFault,
+    /// Memory ran out. Nothing was done.
+    NoMemory,
+}

@@ -7,9 +7,10 @@ mod desk;
 mod due;
 mod founding;
 mod lapsing;
+mod listing;
 mod ordering;
 #[cfg(test)]
 mod tests;
 
-pub use answers::{FoundFault, Lapsed, Ordered};
+pub use answers::{FoundFault, Lapsed, Listing, Ordered};
 pub use desk::Desk;

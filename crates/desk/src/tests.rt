@@ -1,10 +1,11 @@
 //! A service that is founded in memory, and a disk that fails.
-ghost use Rattle.std.specs.Prelude.{◌≡◌, IfOk};
+ghost use Rattle.std.specs.Prelude.{◌≡◌, length, IfOk};
+ghost use Rattle.desk.specs.Listings.{AreFit};
 ghost use Rattle.world_core.specs.Steps.{first_settings};
 
-use crate::{Desk, FoundFault, Lapsed, Ordered};
+use crate::{Desk, FoundFault, Lapsed, Listing, Ordered};
 use cmp_ports::{MemDisk, Octets, Order, Short};
-use deal_model::Settings;
+use deal_model::{Credential, CredentialList, Kind, Settings};
 use std::alloc::{AllocError, Global};
 use std::test::Fail;
 
@@ -73,5 +74,44 @@ fn each_call_of_the_disk_may_fail(rt: HostRuntime) -> Result<(), Fail> {
         let disk = MemDisk::failing(Vec::new(alloc), vec![in alloc; number]?);
         assert!(rt; fault_of(found(alloc, disk)?) == Some(FoundFault::DiskFault));
     }
+    Ok(())
+}
+
+/// One reference, with the right to enrol.
+fn reference(alloc: Global) -> Result<CredentialList, AllocError>
+    ensures { IfOk result (λ list. AreFit list × (length list ≡ 1)) }
+{
+    let Some(kid) = Short::of(b"a") else {
+        unreachable!()
+    };
+    let Some(material) = Short::of(b"01234567") else {
+        unreachable!()
+    };
+    Ok(CredentialList::of(vec![in alloc;
+        Credential {
+            kind: Kind::Mac,
+            kid,
+            material,
+            rights: 1,
+        },
+    ]?))
+}
+
+#[test]
+fn a_credential_is_listed_and_dismissed_once(rt: HostRuntime) -> Result<(), Fail> {
+    let alloc = rt.alloc();
+    let Ok(mut desk) = found(alloc, MemDisk::new(Vec::new(alloc)))? else {
+        assert!(rt; false);
+        return Ok(());
+    };
+    let list = reference(alloc)?;
+    let kid = list.as_slice()[0].kid;
+    assert!(rt; desk.dismiss(Kind::Mac, &kid, 7) == Listing::Unknown);
+    assert!(rt; desk.enlist(&list, 7) == Listing::Done { place: 2 });
+    assert!(rt; desk.enlist(&list, 7) == Listing::InUse { index: 0 });
+    assert!(rt; desk.dismiss(Kind::Lms, &kid, 7) == Listing::Unknown);
+    assert!(rt; desk.dismiss(Kind::Mac, &kid, 7) == Listing::Done { place: 3 });
+    assert!(rt; desk.dismiss(Kind::Mac, &kid, 7) == Listing::Already);
+    assert!(rt; desk.enlist(&list, 7) == Listing::InUse { index: 0 });
     Ok(())
 }
