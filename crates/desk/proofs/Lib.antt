@@ -6,3 +6,4 @@ pub mod FitLemmas
 pub mod FoundLemmas
 pub mod FirstLemmas
 pub mod ListLemmas
+pub mod MountLemmas

@@ -3,3 +3,4 @@ pub mod Due
 pub mod Calls
 pub mod Listings
 pub mod Mounted
+pub mod Mounts

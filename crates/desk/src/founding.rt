@@ -17,7 +17,7 @@ use journal_core::{BeginFault, Journal, PrepareFault};
 use std::alloc::{AllocError, Global};
 
 /// The first seven octets behind the first gate.
-const MAGIC: [u8; 7] = *b"CMPLOG1";
+pub(crate) const MAGIC: [u8; 7] = *b"CMPLOG1";
 
 // The history of a service that is founded now, and the octets of its one change.
 fn first_change(

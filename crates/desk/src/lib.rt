@@ -8,9 +8,11 @@ mod due;
 mod founding;
 mod lapsing;
 mod listing;
+mod mounting;
 mod ordering;
 #[cfg(test)]
 mod tests;
 
 pub use answers::{FoundFault, Lapsed, Listing, Ordered};
 pub use desk::Desk;
+pub use journal_core::MountFault;

@@ -3,6 +3,8 @@ ghost use Rattle.std.specs.Prelude.{◌≡◌, length, IfOk};
 ghost use Rattle.desk.specs.Listings.{AreFit};
 ghost use Rattle.world_core.specs.Steps.{first_settings};
 
+mod mounting;
+
 use crate::{Desk, FoundFault, Lapsed, Listing, Ordered};
 use cmp_ports::{MemDisk, Octets, Order, Short};
 use deal_model::{Credential, CredentialList, Kind, Settings};
