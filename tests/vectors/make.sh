@@ -18,13 +18,15 @@ python3 "$here/history_vectors.py" >"$out/histories.txt"
 python3 "$here/rule_vectors.py" >"$out/rules.txt"
 python3 "$here/lines_vectors.py" >"$out/lines.txt"
 python3 "$here/near_certs.py" >"$out/near_certs.txt"
+python3 "$here/neighbours.py" >"$out/neighbours.txt"
 if command -v openssl >/dev/null; then
     "$here/openssl_certs.sh" >"$out/openssl_certs.txt"
     "$here/pkcs10.sh" >"$out/pkcs10.txt"
 else
     echo "skipped: openssl_certs.txt and pkcs10.txt (no openssl)"
 fi
-echo "hmac.txt, frames.txt, frame.der, changes.txt, histories.txt, rules.txt, lines.txt and near_certs.txt are made"
+echo "hmac.txt, frames.txt, frame.der, changes.txt, histories.txt, rules.txt, lines.txt, near_certs.txt and"
+echo "neighbours.txt are made"
 
 jars=${BCJARS:-/usr/share/java}
 path=$jars/bcprov.jar:$jars/bcutil.jar
