@@ -1,0 +1,4 @@
+pub mod FailInfo
+pub mod Identifier
+pub mod Status
+pub mod Texts
