@@ -1,11 +1,11 @@
 //! A real file as a disk. What it holds is not told, so no clause says that it does what a disk does.
-ghost use Rattle.std.specs.Prelude.{◌≡◌, ◌≤◌, length, Ok, IfOk, OnOk, IsSome};
-ghost use Rattle.cmp_ports.specs.Faults.{HasCause};
+ghost use Rattle.std.specs.Prelude.{◌≡◌, ◌≤◌, length, IfOk, OnOk, IsSome};
 ghost use Rattle.cmp_ports.specs.Untold.{untold, none_told};
 
 #[cfg(test)]
 mod tests;
 
+use crate::counted::counted;
 use crate::{Disk, Failed};
 use std::fs::{File, OpenFile, OpenOptions};
 use std::io;
@@ -32,20 +32,6 @@ fn open<R: Files<File = File>>(files: &R, path: &str, file: &mut Option<File>) -
         *file = Some(files.open_file(&how, path)?);
     }
     Ok(())
-}
-
-// The answer, and a fault more where it is an error.
-fn counted<T>(faults: &mut u64, answer: io::Result<T>) -> Result<T, Failed>
-    ensures value { IfOk result (λ v. answer ≡ Ok v) }
-    ensures cause { HasCause faults.old faults.new result }
-{
-    match answer {
-        Ok(value) => Ok(value),
-        Err(_) => {
-            *faults = faults.saturating_add(1);
-            Err(Failed)
-        }
-    }
 }
 
 fn measure<R: Files<File = File>>(

@@ -4,10 +4,13 @@
 #![tactic(auto)]
 
 mod clock;
+mod counted;
 mod disk;
 mod entropy;
 mod faults;
 mod file_disk;
+mod file_entropy;
+mod file_source;
 mod list_clock;
 mod list_entropy;
 mod list_orders;
@@ -22,6 +25,7 @@ mod short;
 mod sink;
 mod source;
 mod std_stream;
+mod sys_clock;
 #[cfg(test)]
 mod tests;
 mod text;
@@ -32,6 +36,8 @@ pub use disk::Disk;
 pub use entropy::Entropy;
 pub use faults::Failed;
 pub use file_disk::FileDisk;
+pub use file_entropy::FileEntropy;
+pub use file_source::FileSource;
 pub use list_clock::ListClock;
 pub use list_entropy::ListEntropy;
 pub use list_orders::ListOrders;
@@ -45,5 +51,6 @@ pub use short::Short;
 pub use sink::Sink;
 pub use source::Source;
 pub use std_stream::{ReadSource, StdSink, StdSource, WriteSink};
+pub use sys_clock::SysClock;
 pub use text::Text;
 pub use whole::{ReadError, read_up_to, write_all};

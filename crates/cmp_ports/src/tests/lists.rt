@@ -1,7 +1,8 @@
 //! A clock, draws and orders in memory, and the lines of orders.
 
 use crate::{
-    Clock, Entropy, Failed, ListClock, ListEntropy, ListOrders, Order, Orders, Short, order_of_line,
+    Clock, Entropy, Failed, ListClock, ListEntropy, ListOrders, Order, Orders, Short, SysClock,
+    order_of_line,
 };
 use std::test::Fail;
 
@@ -15,6 +16,13 @@ fn a_clock_repeats_its_last_reading(rt: HostRuntime) -> Result<(), Fail> {
     }
     assert_eq!(rt; ListClock::new(Vec::new(alloc)).now(), 0);
     Ok(())
+}
+
+#[test]
+fn the_system_reads_a_time_of_this_age(rt: HostRuntime) {
+    // From 2020 on, and before 2100: the seconds at the start of each year, by `date -u -d 2020-01-01 +%s`.
+    let now = SysClock::new(&rt).now();
+    assert!(rt; now >= 1_577_836_800 && now < 4_102_444_800, "read {now}");
 }
 
 #[test]
