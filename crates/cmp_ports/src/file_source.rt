@@ -1,5 +1,6 @@
 //! A real file as a source. What it holds is not told, so no clause says that its octets are what a read gives.
 ghost use Rattle.std.specs.Prelude.{◌≡◌, ◌≤◌, length, IfOk, IsSome, OnOk};
+ghost use Rattle.cmp_ports.specs.Faults.{Rose};
 ghost use Rattle.cmp_ports.specs.Untold.{untold};
 
 #[cfg(test)]
@@ -60,6 +61,15 @@ impl<R: Files<File = File> + Drop> FileSource<R> {
             file: None,
             faults: 0,
         }
+    }
+
+    // Counts a fault of what was read.
+    pub(crate) fn fault(&mut self) -> Failed
+        ensures rose { Rose self.old.faults self.new.faults }
+        ensures later { self.old.faults ≤ self.new.faults }
+    {
+        self.faults = self.faults.saturating_add(1);
+        Failed
     }
 }
 

@@ -19,5 +19,6 @@ fn a_draw_reads_the_next_32_octets(rt: HostRuntime) -> Result<(), Fail> {
     entropy.draw(&mut words)?;
     assert_eq!(rt; words, *b"ghijklmnopqrstuvGHIJKLMNOPQRSTUV");
     assert!(rt; entropy.draw(&mut words).is_err());
+    fs::remove_file(&rt, "entropy_words")?;
     Ok(())
 }

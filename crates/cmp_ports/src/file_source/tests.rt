@@ -14,5 +14,6 @@ fn a_real_file_is_read_to_its_end(rt: HostRuntime) -> Result<(), Fail> {
         read_up_to(alloc, &mut source, 9)?.as_slice(),
         b"cdef".as_slice()
     );
+    fs::remove_file(&rt, "source_octets")?;
     Ok(())
 }
