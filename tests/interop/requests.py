@@ -1,8 +1,7 @@
 """Parses the requests and certificates that the tests of req_forms and x509_cert speak of, with OpenSSL and Bouncy Castle.
 
-The certificates and the message that an RA vouches for stand in the tests, which show that these very octets are written. Of
-the signed message and of the PKCS #10 request the tests hold parts alone: `signed_message` and `signed_request` put them
-together here, by RFC 4211 and RFC 2986. The fields that are expected are written by hand.
+The tests hold them whole and show that these very octets are written. The fields that are expected are written by
+hand.
 
 Prints how many agreed, and each disagreement; ends with status 1 where there is one. Skipped where a tool is missing.
 """
@@ -21,14 +20,11 @@ TESTS = os.path.join(HERE, "..", "..", "crates", "req_forms", "src", "tests.rt")
 JARS = [os.path.join(os.environ.get("BCJARS", "/usr/share/java"), name + ".jar") for name in ("bcpkix", "bcprov", "bcutil")]
 
 HSS_LMS = "1.2.840.113549.1.9.16.3.17"
-HSS_LMS_OCTETS = bytes.fromhex("2a864886f70d0109100311")
-OLD_CERT_ID_OCTETS = bytes.fromhex("2b0601050507050105")
 
 # Keys and signatures of the tests are octets that count up.
 FIRST_KEY = bytes(range(0x40, 0x7C)).hex()
 SECOND_KEY = bytes(range(0x80, 0xBC)).hex()
 CERTIFICATE_SIGNATURE = bytes(range(0x20)).hex()
-SIGNATURE = bytes([1, 2])
 
 # What the tests ask for: keyUsage (digitalSignature, nonRepudiation), subjectAltName and extKeyUsage (clientAuth)
 WISHED_EXTENSIONS = [
@@ -83,7 +79,7 @@ FIELDS = {
         "extension 2.5.29.17 30168214" + b"device.fleet.example".hex(),
     ])),
     "VOUCHED": ("messages", ["messages 1", "certReqId 0", *DEVICE, "proof raVerified", "writtenAgain the same"]),
-    "SIGNED_MESSAGE": ("messages", [
+    "UPDATE": ("messages", [
         "messages 1",
         "certReqId 0",
         *DEVICE,
@@ -93,7 +89,7 @@ FIELDS = {
         "input none",
         *SIGNED,
     ]),
-    "SIGNED_REQUEST": ("request", ["version 0", *DEVICE, "attributes 1", *WISHED_EXTENSIONS, *SIGNED]),
+    "ASKED": ("request", ["version 0", *DEVICE, "attributes 1", *WISHED_EXTENSIONS, *SIGNED]),
 }
 
 # What openssl req must print of the PKCS #10 request, besides the key, whose algorithm it doesn't know
@@ -171,45 +167,16 @@ TREES = {
         1, "SEQUENCE", under(1, "INTEGER :00", "SEQUENCE", under(
             1, "cont [ 5 ]", under(1, DEVICE_TREE), "cont [ 6 ]", under(1, KEY_TREE))),
         "cont [ 0 ]"))),
-    "SIGNED_MESSAGE": under(0, "SEQUENCE", under(1, "SEQUENCE", under(
+    "UPDATE": under(0, "SEQUENCE", under(1, "SEQUENCE", under(
         1, "SEQUENCE", under(1, "INTEGER :00", "SEQUENCE", under(
             1, "cont [ 5 ]", under(1, DEVICE_TREE), "cont [ 6 ]", under(1, KEY_TREE), "cont [ 9 ]", under(1, EXTENSIONS_TREE)),
             "SEQUENCE", under(1, OLD_TREE)),
         "cont [ 1 ]", under(1, KEY_TREE)))),
-    "SIGNED_REQUEST": under(0, "SEQUENCE", under(
+    "ASKED": under(0, "SEQUENCE", under(
         1, "SEQUENCE", under(1, "INTEGER :00", DEVICE_TREE, "SEQUENCE", under(1, KEY_TREE), "cont [ 0 ]", under(
             1, "SEQUENCE", under(1, "OBJECT :Extension Request", "SET", under(1, "SEQUENCE", under(1, EXTENSIONS_TREE))))),
         KEY_TREE)),
 }
-
-
-def element(tag, content):
-    """An element in DER (X.690, 8.1 and 10.1)."""
-    size = len(content)
-    if size < 128:
-        return bytes([tag, size]) + content
-    count = (size.bit_length() + 7) // 8
-    return bytes([tag, 128 + count]) + size.to_bytes(count, "big") + content
-
-
-def signed_by(signature):
-    """The algorithm HSS/LMS and a signature, a BIT STRING without unused bits."""
-    return element(0x30, element(0x06, HSS_LMS_OCTETS)) + element(0x03, b"\0" + signature)
-
-
-def signed_message(subject, key, extensions, issuer):
-    """CertReqMessages with a signed request for an update of the certificate 3 (RFC 4211, 3 to 6.5)."""
-    template = element(0x30, element(0xA5, subject) + b"\xa6" + key[1:] + element(0xA9, extensions))
-    old = element(0x30, element(0xA4, issuer) + element(0x02, b"\x03"))
-    controls = element(0x30, element(0x30, element(0x06, OLD_CERT_ID_OCTETS) + old))
-    request = element(0x30, element(0x02, b"\0") + template + controls)
-    return element(0x30, element(0x30, request + element(0xA1, signed_by(SIGNATURE))))
-
-
-def signed_request(subject, key, attributes):
-    """A CertificationRequest of version 0 (RFC 2986, 4)."""
-    info = element(0x30, element(0x02, b"\0") + subject + key + element(0xA0, attributes))
-    return element(0x30, info + signed_by(SIGNATURE))
 
 
 def contents():
@@ -219,13 +186,7 @@ def contents():
     octets = {name: certs.octets(text, name) for name in certs.EXPECTED}
     with open(TESTS, encoding="utf-8") as file:
         text = file.read()
-    names = ("SUBJECT", "SPKI", "EXTENSIONS", "ISSUER", "INFO", "VOUCHED")
-    subject, key, extensions, issuer, info, vouched = (certs.octets(text, name) for name in names)
-    octets["VOUCHED"] = vouched
-    octets["SIGNED_MESSAGE"] = signed_message(subject, key, extensions, issuer)
-    # The tests show that the attributes of the request are the last octets of this info.
-    octets["SIGNED_REQUEST"] = signed_request(subject, key, info[-93:])
-    return octets
+    return octets | {name: certs.octets(text, name) for name in TREES}
 
 
 def differences(wanted, found):
@@ -262,7 +223,7 @@ def openssl_differences(octets):
     """Of each name and command, the differences."""
     for name, wanted in TREES.items():
         yield name + " (asn1parse)", differences(wanted, tree_of(octets[name]))
-    yield "SIGNED_REQUEST (req)", differences(REQUEST_LINES, request_lines(octets["SIGNED_REQUEST"]))
+    yield "ASKED (req)", differences(REQUEST_LINES, request_lines(octets["ASKED"]))
 
 
 def castle_lines(octets):
