@@ -1,8 +1,10 @@
 -- The status of a request is read exactly where it is spelled.
-use Rattle.std.proofs.Common.{◌≡◌, ℕ, ◌^◌, ◌<◌, ◌++◌, eqb, IsTrue, List, [], ◌∷◌, length, Option, Some, None, Result, Ok, Err, IfOk, append-nil, refl, sym, ap, subst, ◌∙◌, arith}
+use Rattle.std.proofs.Common.{◌≡◌, ℕ, ◌+◌, ◌^◌, ◌<◌, ◌≤◌, ◌++◌, eqb, IsTrue, List, [], ◌∷◌, length, Option, Some, None, Result, Ok, Err, IfOk, append-nil, refl, sym, ap, subst, ◌∙◌, arith}
 use Rattle.std.specs.Prelude.{option_map, All}
 use Rattle.std.specs.Str.{is_utf8}
+use Rattle.std.proofs.lemmas.List.{length-append}
 use Rattle.std.proofs.lemmas.List.Elements.{All-cons}
+use Rattle.asn_types.proofs.LengthLemmas.{length_element_le}
 use Rattle.der_base.specs.Element.{element, IsElement}
 use Rattle.der_base.specs.Reading.{part}
 use Rattle.der_base.specs.Values.{BitString, is_integer, is_bits, bits_of}
@@ -10,11 +12,12 @@ use Rattle.asn_fields.specs.Fields.{optional_with}
 use Rattle.asn_fields.specs.Forms.{IsRead, IsFront, IsField, optional_spelling, FitsOptional}
 use Rattle.asn_fields.proofs.FieldLemmas.{bound, passed, optional_field}
 use Rattle.asn_types.specs.Template.{Passes, same, tested_at}
+use Rattle.asn_parts.specs.Number.{number_octets}
 use Rattle.asn_parts.specs.Parts.{tagged, FitsTagged, required_with}
 use Rattle.asn_parts.proofs.NumberLemmas.{number_form, number_size}
 use Rattle.asn_parts.proofs.PartLemmas.{tested_is_read, required_front}
 use Rattle.pki_parts.specs.Texts.{IsText, IsTexts, are_texts}
-use Rattle.pki_parts.specs.Status.{StatusForm, FitsStatus, IsBits, IsTextOrNone, status_content, bits_content, bits_inside_at, status_at, one_text, reason_bits, written_status}
+use Rattle.pki_parts.specs.Status.{StatusForm, FitsStatus, IsBits, IsTextOrNone, status_content, bits_content, bits_inside_at, status_at, one_text, reason_bits, written_status, option_size}
 use Rattle.pki_parts.specs.declared.fail_info.FailInfo.{FailInfo}
 use Rattle.pki_parts.specs.declared.fail_info.FailInfo.TheVariants as reason
 use Rattle.pki_parts.proofs.FieldLemmas.{nothing_over, field_not, field_last, other_tag, front_fits, back_fits, inside_fits}
@@ -82,6 +85,9 @@ status_again s fits =
 pub status_is_read : IsRead status_at status_content FitsStatus
 status_is_read = record { takes = status_takes; again = status_again }
 
+pub status_field : IsFront (required_with status_at 0x30) (tagged 0x30 status_content) (FitsTagged status_content FitsStatus)
+status_field = required_front status_at 0x30 status_content FitsStatus (omega arith) status_is_read
+
 -- a reason is a short string of bits
 reason_fits : (fail : FailInfo) → IsBits (reason_bits fail) × (length (bits_content (reason_bits fail)) < 6)
 reason_fits reason.BadAlg = (refl, omega arith)
@@ -108,6 +114,30 @@ reason_fits reason.DuplicateCertReq = (refl, omega arith)
 fail_fits : (fail : Option FailInfo) → FitsOptional bits_content IsBits (option_map reason_bits fail)
 fail_fits None = tt
 fail_fits (Some fail) = let fits = reason_fits fail in (fits.0, omega (arith, fits.1))
+
+-- how long what is written is at most
+fail_size : (fail : Option FailInfo) → length (optional_spelling 0x03 bits_content (option_map reason_bits fail)) ≤ 11
+fail_size None = omega arith
+fail_size (Some fail) = omega (arith, length_element_le 0x03 (bits_content (reason_bits fail)), (reason_fits fail).1)
+
+text_size : (text : Option (List ℕ)) → length (optional_spelling 0x30 same (option_map one_text text)) ≤ option_size text + 12
+text_size None = omega arith
+text_size (Some text) = omega (arith, length_element_le 0x30 (one_text text), length_element_le 0x0C text)
+
+pub status_size : (status : ℕ) (text : Option (List ℕ)) (fail : Option FailInfo) → length (status_content (written_status status text fail)) ≤ option_size text + 38
+status_size status text fail =
+    let s : StatusForm = written_status status text fail in
+    omega (
+      arith,
+      length-append (element 0x02 s.status) (optional_spelling 0x30 same s.text ++ optional_spelling 0x03 bits_content s.fail),
+      length-append (optional_spelling 0x30 same s.text) (optional_spelling 0x03 bits_content s.fail),
+      length_element_le 0x02 (number_octets status),
+      number_size status,
+      text_size text,
+      fail_size fail,
+    )
+
+pub ruleset sizes = (status_size, length_element_le)
 
 -- one text is a row of texts
 one_is_row : (text : List ℕ) → IsTrue (is_utf8 text) → length (one_text text) < 2 ^ 32 → IsTexts (one_text text)
@@ -137,6 +167,8 @@ written_fits status text fail small h counted =
       fail = fail_fits fail;
     }
 
-pub status_result : {E : Type 0} (r : Result (List ℕ) E) (status : ℕ) (text : Option (List ℕ)) (fail : Option FailInfo) → status < 2 ^ 64 → length (status_content (written_status status text fail)) < 2 ^ 32 → IfOk r (λ octets. octets ≡ element 0x30 (status_content (written_status status text fail))) → IsTextOrNone text → IfOk r (λ octets. IsElement octets 0x30 (status_content (written_status status text fail)) × FitsStatus (written_status status text fail))
-status_result (Ok octets) status text fail small counted e h = (record { low_tag = omega arith; counted = counted; spelled = e }, written_fits status text fail small h counted)
-status_result (Err f) status text fail small counted e h = tt
+pub status_result : {E : Type 0} (r : Result (List ℕ) E) (status : ℕ) (text : Option (List ℕ)) (fail : Option FailInfo) → status < 2 ^ 64 → option_size text + 64 < 2 ^ 32 → IfOk r (λ octets. octets ≡ element 0x30 (status_content (written_status status text fail))) → IsTextOrNone text → IfOk r (λ octets. IsElement octets 0x30 (status_content (written_status status text fail)) × FitsStatus (written_status status text fail))
+status_result (Ok octets) status text fail small room e h =
+    let counted : length (status_content (written_status status text fail)) < 2 ^ 32 = omega (arith, room, status_size status text fail) in
+    (record { low_tag = omega arith; counted = counted; spelled = e }, written_fits status text fail small h counted)
+status_result (Err f) status text fail small room e h = tt

@@ -1,3 +1,5 @@
+pub mod CertRep
+pub mod Error
 pub mod FailInfo
 pub mod Identifier
 pub mod Status

@@ -1,5 +1,5 @@
 -- PKIStatusInfo (RFC 9810, 5.2.3).
-use Rattle.std.specs.Prelude.{ℕ, ◌++◌, ◌==◌, if◌then◌else◌, IsTrue, IfSome, List, ◌∷◌, length, Option, Some, None, option_map}
+use Rattle.std.specs.Prelude.{ℕ, ◌++◌, ◌==◌, if◌then◌else◌, IsTrue, IfSome, List, [], ◌∷◌, length, Option, Some, None, option_map, unwrap_or}
 use Rattle.std.specs.Option.{option_copied}
 use Rattle.std.specs.Str.{is_utf8}
 use Rattle.der_base.specs.Element.{element}
@@ -61,6 +61,10 @@ reason_bits fail = bits_to (bit_of fail)
 
 abbrev pub written_status : ℕ → Option (List ℕ) → Option FailInfo → StatusForm
 written_status status text fail = record { status = number_octets status; text = option_map one_text text; fail = option_map reason_bits fail }
+
+-- How many octets what may be left out has.
+abbrev pub option_size : Option (List ℕ) → ℕ
+option_size o = length (unwrap_or o [])
 
 -- The text is one.
 abbrev pub IsTextOrNone : Option (List ℕ) → Type 0

@@ -1,5 +1,5 @@
 //! The status of a request.
-ghost use Rattle.std.specs.Prelude.{◌≡◌, ℕ, ◌^◌, ◌<◌, ◌++◌, ◌==◌, if◌then◌else◌, List, Option, Some, None, length, IfOk, OnOk, option_map};
+ghost use Rattle.std.specs.Prelude.{◌≡◌, ℕ, ◌^◌, ◌<◌, ◌≤◌, ◌+◌, ◌++◌, ◌==◌, if◌then◌else◌, List, Option, Some, None, length, IfOk, OnOk, option_map};
 ghost use Rattle.std.specs.Option.{option_copied};
 ghost use Rattle.der_base.specs.Element.{element, IsElement};
 ghost use Rattle.der_base.specs.Values.{BitString, bit_string_of};
@@ -25,7 +25,7 @@ pub struct StatusInfo<'a> {
     pub fail: Option<Bits<'a>>,
 }
 
-ghost use Rattle.pki_parts.specs.Status.{StatusForm, FitsStatus, IsTextOrNone, status_content, status_of, bits_content, bits_inside_at, status_at, one_text, reason_bits, written_status};
+ghost use Rattle.pki_parts.specs.Status.{StatusForm, FitsStatus, IsTextOrNone, status_content, status_of, bits_content, bits_inside_at, status_at, one_text, reason_bits, written_status, option_size};
 
 /// A string of bits, by its content.
 #[tactic(auto, unfolding(crate::specs::Status::bits_inside_at, der_base::specs::Values::bits_at))]
@@ -171,14 +171,16 @@ fn status_written(
 }
 
 /// Writes a status (RFC 9810, 5.2.3) with one text or none, and one reason or none. `AllocError` where memory runs out.
+#[tactic(auto, using(crate::proofs::StatusLemmas::sizes))]
 pub fn write_status(
     alloc: Global,
     status: u8,
     text: Option<&[u8]>,
     fail: Option<FailInfo>,
 ) -> Result<Octets, AllocError>
-    requires { length (status_content (written_status status (option_copied text) fail)) < 2 ^ 32 }
+    requires { option_size (option_copied text) + 64 < 2 ^ 32 }
     ensures written { IfOk result (λ octets. octets ≡ element 0x30 (status_content (written_status status (option_copied text.entry) fail))) }
+    ensures size { IfOk result (λ octets. length octets ≤ option_size (option_copied text.entry) + 64) }
     // What is written is read again: the element is of this form, and its fields have the forms of their types.
     ensures again { IsTextOrNone (option_copied text.entry) → IfOk result (λ octets.
         IsElement octets 0x30 (status_content (written_status status (option_copied text.entry) fail))
