@@ -20,6 +20,7 @@ fn a_real_file_is_written_and_read(rt: HostRuntime) -> Result<(), Fail> {
     assert_eq!(rt; octets, *b"Ycde");
     assert_eq!(rt; disk.read_at(6, &mut octets)?, 0);
     assert_eq!(rt; fs::read_to_string(&rt, "octets")?.as_str(), "XYcdef");
+    fs::remove_file(&rt, "octets")?;
     Ok(())
 }
 
