@@ -1,0 +1,9 @@
+pub mod Stays
+pub mod Rows
+pub mod Trust
+pub mod Jobs
+pub mod Split
+pub mod Later
+pub mod Blind
+pub mod Sends
+pub mod Served

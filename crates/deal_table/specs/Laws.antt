@@ -1,0 +1,66 @@
+-- What holds of a history's answers and of the table.
+use Rattle.std.specs.Prelude.{◌≡◌, ◌⊎◌, ℕ, Bool, List, ◌++◌, Option, Some, is_some, find}
+use Rattle.deal_changes.specs.declared.change.Kind.{Kind}
+use Rattle.deal_changes.specs.declared.change.Settings.{Settings}
+use Rattle.deal_changes.specs.declared.change.Change.{Change}
+use Rattle.deal_model.specs.declared.states.Owner.{Owner}
+use Rattle.deal_model.specs.Views.{History, founding}
+use Rattle.deal_model.specs.declared.asking.Checked.{Checked}
+use Rattle.deal_table.specs.declared.fail.FailInfo.{FailInfo}
+use Rattle.deal_table.specs.History.{Receipted, Begins, place_of, owner_for, event_time, receipt_at, grant_receipt}
+use Rattle.deal_table.specs.Message.{Letter, blind}
+use Rattle.deal_table.specs.Table.{To, Refuses, Asks, decision}
+use Rattle.deal_table.specs.Served.{decision_so_far, IsServedSoFar}
+use Rattle.deal_table.specs.Carry.{left, Carries, untold, HashIsTold, as_told, IsStale, carried_to}
+
+-- ---- what a history has settled stands in each later one
+
+-- what the service was founded with
+abbrev pub SettingsStay : Type 0
+SettingsStay = (h more : History) (s : Settings) → founding h ≡ Some s → founding (h ++ more) ≡ Some s
+
+-- to whom a credential belongs, with which key and which rights
+abbrev pub OwnersStay : Type 0
+OwnersStay = (h more : History) (kind : Option Kind) (kid : List ℕ) (o : Owner) → owner_for h kind kid ≡ Some o → owner_for (h ++ more) kind kid ≡ Some o
+
+-- the first change of any sort, as a transaction's Grant or Hold or that of a message, and its place
+abbrev pub FirstsStay : Type 0
+FirstsStay = (test : Change → Bool) (h more : History) (c : Change) → find test h ≡ Some c → find test (h ++ more) ≡ Some c
+
+abbrev pub PlacesStay : Type 0
+PlacesStay = (test : Change → Bool) (h more : History) (place : ℕ) → place_of test h ≡ Some place → place_of test (h ++ more) ≡ Some place
+
+-- what the reply to a change needs
+abbrev pub ReceiptsStay : Type 0
+ReceiptsStay = (h more : History) (place : ℕ) (r : Receipted) → receipt_at h place ≡ Some r → receipt_at (h ++ more) place ≡ Some r
+
+abbrev pub GrantReceiptsStay : Type 0
+GrantReceiptsStay = (h more : History) (tid : List ℕ) (r : Receipted) → grant_receipt h tid ≡ Some r → grant_receipt (h ++ more) tid ≡ Some r
+
+-- ---- the decision in parts
+
+-- What carried a message at an earlier history decides it at a later one, as far as certHash was told, by what is left of it.
+abbrev pub IsDecidedByTheRest : Type 0
+IsDecidedByTheRest = (l : Letter) (c : Checked) (looked told h : History) (now : ℕ) (w : List ℕ) → Carries l (untold c) looked → Begins looked h → HashIsTold l c told → Begins told h
+    → decision h (as_told c.hash_ok l) now w ≡ left h c now w
+
+-- where nobody has compared certHash, a message is decided as where somebody has, or it has to be compared first
+abbrev pub DecidesOrAsks : Type 0
+DecidesOrAsks = (h : History) (l : Letter) (now : ℕ) (w : List ℕ) → (decision h (blind l) now w ≡ decision h l now w) ⊎ ((place : ℕ) × (decision h (blind l) now w ≡ Asks place))
+
+-- a refusal of what is left is protected by nothing, or by the secret that is carried
+abbrev pub RefusesToTheCarried : Type 0
+RefusesToTheCarried = (l : Letter) (c : Checked) (looked h : History) (now : ℕ) (w : List ℕ) (fail : FailInfo) (to : To) → Carries l (untold c) looked → Begins looked h → left h c now w ≡ Refuses fail to
+    → to ≡ carried_to c to.outer (is_some to.guard)
+
+-- what is left asks only of a certConf whose certHash nobody has compared, and at the place of the transaction's Grant
+abbrev pub AsksOfTheStale : Type 0
+AsksOfTheStale = (h : History) (c : Checked) (now : ℕ) (w : List ℕ) (place : ℕ) → left h c now w ≡ Asks place → IsStale h c place
+
+-- of the clock's reading only the event's time is asked
+abbrev pub DecidesByTheTime : Type 0
+DecidesByTheTime = (h : History) (l : Letter) (now : ℕ) (w : List ℕ) → decision h l (event_time h now) w ≡ decision h l now w
+
+-- a message that is served so far is decided by the whole table
+abbrev pub ServedIsWhole : Type 0
+ServedIsWhole = (h : History) (l : Letter) (now : ℕ) (w : List ℕ) → IsServedSoFar h l → decision_so_far h l now w ≡ decision h l now w

@@ -1,0 +1,29 @@
+//! Laws of the table, each the contract of a function that does nothing.
+ghost use Rattle.deal_table.specs.Laws.{SettingsStay, OwnersStay, FirstsStay, PlacesStay, ReceiptsStay, GrantReceiptsStay, IsDecidedByTheRest, DecidesOrAsks, RefusesToTheCarried, AsksOfTheStale, DecidesByTheTime, ServedIsWhole};
+
+/// What a history has settled stands in each later one: what the service was founded with; to whom a credential belongs; the
+/// first change of any sort, and its place; what the reply to a change needs.
+pub fn what_is_settled_stays()
+    ensures settings { SettingsStay }
+    ensures owners { OwnersStay }
+    ensures firsts { FirstsStay }
+    ensures places { PlacesStay }
+    ensures receipts { ReceiptsStay }
+    ensures grants { GrantReceiptsStay }
+{}
+
+/// What was checked of a message at one history decides it at each later one, by the same table over what is left: with the
+/// same answer, refusals to the same header under the same secret. Where certHash wasn't compared, the answer is the same, or
+/// it has to be compared first. Of the clock's reading only the event's time is asked.
+pub fn what_is_left_decides()
+    ensures left { IsDecidedByTheRest }
+    ensures blind { DecidesOrAsks }
+    ensures sends { RefusesToTheCarried }
+    ensures asks { AsksOfTheStale }
+    ensures time { DecidesByTheTime }
+{}
+
+/// A message that is served so far is decided by the whole table.
+pub fn what_is_served_is_whole()
+    ensures { ServedIsWhole }
+{}
