@@ -13,3 +13,6 @@ pub use cert_rep::{CertRep, CertResponse, read_cert_rep, write_cert_rep};
 pub use error::{ErrorMsg, read_error, write_error};
 pub use fail_info::FailInfo;
 pub use status::{StatusInfo, read_status, write_status};
+
+#[cfg(test)]
+mod reply_tests;
