@@ -7,3 +7,4 @@ pub mod Later
 pub mod Blind
 pub mod Sends
 pub mod Served
+pub mod Examples
