@@ -1,6 +1,12 @@
 pub mod CertRepLemmas
+pub mod ConfirmationLemmas
 pub mod ErrorLemmas
 pub mod FailLemmas
 pub mod FieldLemmas
+pub mod ListLemmas
+pub mod PollingLemmas
+pub mod ReasonLemmas
+pub mod RevocationLemmas
+pub mod RevokedLemmas
 pub mod StatusLemmas
 pub mod TextLemmas

@@ -1,6 +1,12 @@
 pub mod CertRep
+pub mod Confirmation
 pub mod Error
 pub mod FailInfo
 pub mod Identifier
+pub mod Lists
+pub mod Polling
+pub mod Reason
+pub mod Revocation
+pub mod Revoked
 pub mod Status
 pub mod Texts
