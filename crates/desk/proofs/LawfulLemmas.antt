@@ -30,6 +30,18 @@ forms_from before (c ∷ cs) h = (h.0.form, forms_from (before ++ c ∷ []) cs h
 pub forms_out : (h : History) → Legal h → AllByRecursion IsChange h
 forms_out h l = forms_from [] h l.1
 
+pub legal_timely : (h : History) → Legal h → AreTimely h
+legal_timely h l = timely_from [] h l.1
+
+bounded_from : (before cs : List Change) → length before ≤ 262144 → AllowedFrom before cs → length before + length cs ≤ 262144
+bounded_from before [] le h = omega (arith, le)
+bounded_from before (c ∷ cs) le h =
+    let more : length (before ++ c ∷ []) ≡ length before + 1 = length-append before (c ∷ []) in
+    omega (arith, more, bounded_from (before ++ c ∷ []) cs (omega (arith, more, h.0.room)) h.1)
+
+pub legal_bounded : (h : History) → Legal h → length h ≤ 262144
+legal_bounded h l = omega (arith, bounded_from [] h (omega arith) l.1)
+
 timely_prop : (h : History) → IsProp (AreTimely h)
 timely_prop h = Prim.hlevel props
 

@@ -16,3 +16,4 @@ mod tests;
 pub use answers::{FoundFault, Lapsed, Listing, Ordered};
 pub use desk::Desk;
 pub use journal_core::MountFault;
+pub use mounting::history_on;

@@ -1,10 +1,10 @@
 //! Mounts the history that a disk holds.
-ghost use Rattle.std.specs.Prelude.{◌≡◌, ◌≤◌, ℕ, List, Some, None, IfOk, IfErr, IsErrOf, MatchResult};
+ghost use Rattle.std.specs.Prelude.{◌≡◌, ◌≤◌, ℕ, List, length, Some, None, IfOk, IfErr, OnOk, IsErrOf, MatchResult};
 ghost use Rattle.cmp_ports.specs.Disk.{Among, LeavesOnly};
 ghost use Rattle.cmp_ports.specs.Faults.{Rose};
 ghost use Rattle.deal_changes.specs.Spelling.{spelling};
 ghost use Rattle.deal_model.specs.Views.{AreTimely};
-ghost use Rattle.deal_model.specs.Rules.{Allowed};
+ghost use Rattle.deal_model.specs.Rules.{Allowed, Legal};
 ghost use Rattle.desk.specs.Mounts.{IsStopped, Replays, Stands, Refuses};
 
 use crate::desk::Desk;
@@ -58,6 +58,26 @@ fn replay(alloc: Global, payloads: &[Octets]) -> Result<Vec<Change>, MountFault>
     if history.is_empty() {
         return Err(MountFault::Damaged { at });
     }
+    Ok(history)
+}
+
+/// The history that a disk holds, with no desk over it; nothing is written. Its faults are those of `Desk::mount`.
+pub fn history_on<D: Disk>(alloc: Global, disk: &mut D) -> Result<Vec<Change>, MountFault>
+    // The history that the content recovers to, or why there is none.
+    ensures told { (f : List ℕ) → D.content disk.old ≡ Some f → MatchResult result (λ v. Stands f v.items) (λ fault. Refuses f fault) }
+    ensures legal { IfOk result (λ v. Legal v.items) }
+    ensures timely { IfOk result (λ v. AreTimely v.items) }
+    ensures bounded { IfOk result (λ v. length v.items ≤ 262144) }
+    ensures same { D.content disk.new ≡ D.content disk.old }
+    ensures crash { Among (D.images disk.old) (D.images disk.new) }
+    // A stop at any moment leaves an image from before the call.
+    ensures moments { LeavesOnly D.moment D.left_since disk.old disk.new (D.images disk.old) }
+    ensures fault { IsErrOf result MountFault.DiskFault → Rose (D.faults disk.old) (D.faults disk.new) }
+    ensures kept { OnOk result (D.faults disk.new ≡ D.faults disk.old) }
+    ensures later { D.faults disk.old ≤ D.faults disk.new }
+{
+    let (_, payloads) = Journal::mount(alloc, disk, &MAGIC)?;
+    let history = replay(alloc, payloads.as_slice())?;
     Ok(history)
 }
 

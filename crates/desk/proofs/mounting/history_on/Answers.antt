@@ -1,0 +1,9 @@
+-- A legal history is one of times that a clock may say, and no longer than a history may be.
+use Rattle.desk.proofs.LawfulLemmas.{legal_timely, legal_bounded}
+use Rattle.desk.proofs.mounting.history_on.Goals as goal
+
+pub returns-clause-timely : goal.returns-clause-timely
+returns-clause-timely g c = legal_timely c.in_ok-history.history.items c.in_ok-history.ensures.0
+
+pub returns-clause-bounded : goal.returns-clause-bounded
+returns-clause-bounded g c = legal_bounded c.in_ok-history.history.items c.in_ok-history.ensures.0
