@@ -7,4 +7,8 @@ pub mod Later
 pub mod Blind
 pub mod Sends
 pub mod Served
+pub mod Made
+pub mod Senders
+pub mod Forms
+pub mod Allowed
 pub mod Examples

@@ -1,5 +1,5 @@
 -- What a history has settled stands in each later one.
-use Rattle.std.proofs.Common.{◌≡◌, ℕ, zero, suc, ◌+◌, ◌<◌, Bool, true, false, cond, List, [], ◌∷◌, ◌++◌, length, take, Option, Some, None, refl, arith}
+use Rattle.std.proofs.Common.{◌≡◌, ℕ, zero, suc, ◌+◌, ◌<◌, Bool, true, false, cond, List, [], ◌∷◌, ◌++◌, length, take, Option, Some, None, refl, ap, arith}
 use Rattle.std.specs.Prelude.{option_and_then, find, slice_get}
 use Rattle.std.specs.Option.{option_or}
 use Rattle.std.specs.List.{position_from}
@@ -8,10 +8,12 @@ use Rattle.std.proofs.lemmas.List.Folds.{find-append}
 use Rattle.std.proofs.lemmas.Option.{none-some, slice_get_within}
 use Rattle.deal_changes.specs.declared.change.Kind.{Kind}
 use Rattle.deal_changes.specs.declared.change.Settings.{Settings}
+use Rattle.deal_changes.specs.declared.change.Stamp.{Stamp}
 use Rattle.deal_changes.specs.declared.change.Change.{Change}
+use Rattle.deal_changes.specs.Times.{stamp_of}
 use Rattle.deal_model.specs.declared.states.Owner.{Owner}
 use Rattle.deal_model.specs.Views.{History, founding, is_grant_for, owner_in, has_owner, owner_of}
-use Rattle.deal_table.specs.History.{Receipted, place_of, owner_for, receipt_in, receipt_at, grant_receipt}
+use Rattle.deal_table.specs.History.{Receipted, place_of, owner_for, receipt_of, receipt_in, receipt_at, grant_receipt}
 
 pub settings_stay : (h more : History) (s : Settings) → founding h ≡ Some s → founding (h ++ more) ≡ Some s
 settings_stay [] more s e = absurd (none-some s e)
@@ -72,3 +74,18 @@ grant_from h more (Some place) later r same e = rw (same place refl) (receipt_st
 pub grant_stays : (h more : History) (tid : List ℕ) (r : Receipted) → grant_receipt h tid ≡ Some r → grant_receipt (h ++ more) tid ≡ Some r
 unfolding grant_receipt
 grant_stays h more tid r e = grant_from h more (place_of (is_grant_for tid) h) (place_of (is_grant_for tid) (h ++ more)) r (place_stays (is_grant_for tid) h more) e
+
+-- ---- the change that was made last
+
+get_last : (h : History) (c : Change) → slice_get (h ++ c ∷ []) (length h) ≡ Some c
+get_last [] c = refl
+get_last (x ∷ h) c = get_last h c
+
+take_last : (h : History) (c : Change) → take (suc (length h)) (h ++ c ∷ []) ≡ h ++ c ∷ []
+take_last [] c = refl
+take_last (x ∷ h) c = ap (λ (g : History). x ∷ g) (take_last h c)
+
+-- what its reply needs, where a message made it
+pub last_receipt : (h : History) (c : Change) (s : Stamp) → stamp_of c ≡ Some s → receipt_at (h ++ c ∷ []) (suc (length h)) ≡ Some (receipt_of (h ++ c ∷ []) (suc (length h)) c s)
+unfolding receipt_at
+last_receipt h c s e = rw (get_last h c, take_last h c, e) refl

@@ -2,10 +2,11 @@
 --
 -- Whoever has checked a message at a history hands on a Checked. It is turned back into a message, of which what was settled
 -- passes and what is left is as it was; and the same table decides that message, at any later history.
-use Rattle.std.specs.Prelude.{◌≡◌, ℕ, Bool, true, false, ◌&&◌, not, List, [], Option, Some, None, ◌⊎◌, if◌then◌else◌}
+use Rattle.std.specs.Prelude.{◌≡◌, ℕ, ◌<◌, ◌^◌, Bool, true, false, ◌&&◌, not, List, [], length, Option, Some, None, IfSome, ◌⊎◌, if◌then◌else◌}
 use Rattle.deal_changes.specs.declared.change.Kind.{Kind}
 use Rattle.deal_changes.specs.declared.change.Body4.{Body4}
 use Rattle.deal_changes.specs.declared.change.Wish.{Wish}
+use Rattle.deal_changes.specs.Spelling.{IsBlob, IsShort, IsTid, IsWish}
 use Rattle.deal_model.specs.declared.asking.Job.{Job}
 use Rattle.deal_model.specs.declared.asking.Job.TheVariants.{Repeat, Enrol, Confirm, Poll, Withdraw}
 use Rattle.deal_model.specs.declared.asking.Checked.{Checked}
@@ -134,6 +135,22 @@ pub record Carries (l : Letter) (c : Checked) (h : History) : Type 0 where
   pub header : (subject_of l).header ≡ header_by c
   pub inside : IsInside h l.message c c.ask.outer
   pub job : IsForJob h (subject_of l) c c.job
+
+-- the job can be spelled
+abbrev pub FitsJob : Job → Type 0
+FitsJob Repeat = Unit {0}
+FitsJob (Enrol body wish old) = IsWish wish
+FitsJob (Confirm id_ok hash hash_alg_ok count status) = Unit {0}
+FitsJob (Poll ids_ok) = Unit {0}
+FitsJob (Withdraw serial reason) = reason < 2 ^ 8
+
+-- What a change keeps of a Checked fits its places there.
+pub record FitsChecked (c : Checked) : Type 0 where
+  pub digest : length c.ask.digest ≡ 32
+  pub tid : IsTid c.ask.tid
+  pub sender : IsBlob c.echo.sender.now
+  pub nonce : IfSome c.echo.nonce IsShort
+  pub job : FitsJob c.job
 
 -- ---- whether certHash was compared
 

@@ -1,17 +1,19 @@
 -- What holds of a history's answers and of the table.
-use Rattle.std.specs.Prelude.{◌≡◌, ◌⊎◌, ℕ, Bool, List, ◌++◌, Option, Some, is_some, find}
+use Rattle.std.specs.Prelude.{◌≡◌, ◌⊎◌, ℕ, ◌≤◌, Bool, List, ◌++◌, length, Option, Some, is_some, find}
 use Rattle.deal_changes.specs.declared.change.Kind.{Kind}
 use Rattle.deal_changes.specs.declared.change.Settings.{Settings}
 use Rattle.deal_changes.specs.declared.change.Change.{Change}
+use Rattle.deal_changes.specs.Times.{time_of_change}
 use Rattle.deal_model.specs.declared.states.Owner.{Owner}
 use Rattle.deal_model.specs.Views.{History, founding}
+use Rattle.deal_model.specs.Rules.{Allowed, Legal}
 use Rattle.deal_model.specs.declared.asking.Checked.{Checked}
 use Rattle.deal_table.specs.declared.fail.FailInfo.{FailInfo}
 use Rattle.deal_table.specs.History.{Receipted, Begins, place_of, owner_for, event_time, receipt_at, grant_receipt}
-use Rattle.deal_table.specs.Message.{Letter, blind}
-use Rattle.deal_table.specs.Table.{To, Refuses, Asks, decision}
+use Rattle.deal_table.specs.Message.{FitsMessage, Letter, subject_of, blind}
+use Rattle.deal_table.specs.Table.{To, Makes, Refuses, Asks, decision}
 use Rattle.deal_table.specs.Served.{decision_so_far, IsServedSoFar}
-use Rattle.deal_table.specs.Carry.{left, Carries, untold, HashIsTold, as_told, IsStale, carried_to}
+use Rattle.deal_table.specs.Carry.{left, FitsChecked, Carries, untold, HashIsTold, as_told, IsStale, carried_to}
 
 -- ---- what a history has settled stands in each later one
 
@@ -60,6 +62,20 @@ AsksOfTheStale = (h : History) (c : Checked) (now : ℕ) (w : List ℕ) (place :
 -- of the clock's reading only the event's time is asked
 abbrev pub DecidesByTheTime : Type 0
 DecidesByTheTime = (h : History) (l : Letter) (now : ℕ) (w : List ℕ) → decision h l (event_time h now) w ≡ decision h l now w
+
+-- ---- what the table makes
+
+-- A change that the table makes over a legal history may come next, at the event's time, where the parts of the message fit.
+abbrev pub MakesTheAllowed : Type 0
+MakesTheAllowed = (h : History) (l : Letter) (now : ℕ) (w : List ℕ) (c : Change) → Legal h → FitsMessage (subject_of l) → now ≤ 250000000000 → length w ≡ 32 → decision h l now w ≡ Makes c
+    → Allowed h c × (time_of_change c ≡ event_time h now)
+
+-- so may a change that what is left of a message makes
+abbrev pub LeftMakesTheAllowed : Type 0
+LeftMakesTheAllowed = (h : History) (k : Checked) (now : ℕ) (w : List ℕ) (c : Change) → Legal h → FitsChecked k → now ≤ 250000000000 → length w ≡ 32 → left h k now w ≡ Makes c
+    → Allowed h c × (time_of_change c ≡ event_time h now)
+
+-- ---- what is served so far
 
 -- a message that is served so far is decided by the whole table
 abbrev pub ServedIsWhole : Type 0

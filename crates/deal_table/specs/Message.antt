@@ -1,9 +1,10 @@
 -- What a message says, as far as a decision asks. Of its octets only these facts are asked, so the table knows no octets. What
 -- the octets settle beside a key or a certificate is a function of it.
-use Rattle.std.specs.Prelude.{ℕ, Bool, true, false, ◌||◌, ◌==◌, List, Option, None, if◌then◌else◌}
+use Rattle.std.specs.Prelude.{◌≡◌, ℕ, ◌<◌, ◌^◌, Bool, true, false, ◌||◌, ◌==◌, List, length, Option, Some, None, IfSome, if◌then◌else◌}
 use Rattle.deal_changes.specs.declared.change.Kind.{Kind}
 use Rattle.deal_changes.specs.declared.change.Body4.{Body4}
 use Rattle.deal_changes.specs.declared.change.Wish.{Wish}
+use Rattle.deal_changes.specs.Spelling.{IsBlob, IsShort, IsTid, IsWish}
 use Rattle.deal_model.specs.declared.asking.Echo.{Echo}
 use Rattle.deal_table.specs.History.{Receipted}
 
@@ -105,6 +106,23 @@ pub record Letter : Type 0 where
 -- the message that is about something
 abbrev pub subject_of : Letter → Facts
 subject_of l = if is_nested l.message.body then l.inner else l.message
+
+-- a wish can be spelled, and a reason has one octet
+abbrev pub FitsBody : Body → Type 0
+FitsBody (Enrols e) = IsWish e.wish
+FitsBody (Confirms c) = Unit {0}
+FitsBody (Polls p) = Unit {0}
+FitsBody (Withdraws w) = IfSome w.reason (λ r. r < 2 ^ 8)
+FitsBody (Nests count) = Unit {0}
+FitsBody OtherBody = Unit {0}
+
+-- What a change keeps of a message fits its places there.
+pub record FitsMessage (m : Facts) : Type 0 where
+  pub digest : length m.digest ≡ 32
+  pub tid : IfSome m.header.tid IsTid
+  pub sender : IsBlob m.header.sender
+  pub nonce : IfSome m.header.sender_nonce IsShort
+  pub body : FitsBody m.body
 
 -- ---- what a reply repeats
 

@@ -1,5 +1,5 @@
 //! Laws of the table, each the contract of a function that does nothing.
-ghost use Rattle.deal_table.specs.Laws.{SettingsStay, OwnersStay, FirstsStay, PlacesStay, ReceiptsStay, GrantReceiptsStay, IsDecidedByTheRest, DecidesOrAsks, RefusesToTheCarried, AsksOfTheStale, DecidesByTheTime, ServedIsWhole};
+ghost use Rattle.deal_table.specs.Laws.{SettingsStay, OwnersStay, FirstsStay, PlacesStay, ReceiptsStay, GrantReceiptsStay, IsDecidedByTheRest, DecidesOrAsks, RefusesToTheCarried, AsksOfTheStale, DecidesByTheTime, MakesTheAllowed, LeftMakesTheAllowed, ServedIsWhole};
 
 /// What a history has settled stands in each later one: what the service was founded with; to whom a credential belongs; the
 /// first change of any sort, and its place; what the reply to a change needs.
@@ -21,6 +21,13 @@ pub fn what_is_left_decides()
     ensures sends { RefusesToTheCarried }
     ensures asks { AsksOfTheStale }
     ensures time { DecidesByTheTime }
+{}
+
+/// What the table makes may come next in the history, at the event's time: it has a spelling, there is room for it, and the
+/// rule of its kind holds. So does what is made of what was checked.
+pub fn what_is_made_is_allowed()
+    ensures decided { MakesTheAllowed }
+    ensures left { LeftMakesTheAllowed }
 {}
 
 /// A message that is served so far is decided by the whole table.

@@ -10,5 +10,7 @@ mod laws;
 mod look;
 
 pub use fail::FailInfo;
-pub use laws::{what_is_left_decides, what_is_served_is_whole, what_is_settled_stays};
+pub use laws::{
+    what_is_left_decides, what_is_made_is_allowed, what_is_served_is_whole, what_is_settled_stays,
+};
 pub use look::Look;

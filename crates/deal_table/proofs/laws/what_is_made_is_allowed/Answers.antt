@@ -1,0 +1,8 @@
+use Rattle.deal_table.proofs.Allowed.{made_allowed, left_allowed}
+use Rattle.deal_table.proofs.laws.what_is_made_is_allowed.Goals as goal
+
+pub returns-clause-decided : goal.returns-clause-decided
+returns-clause-decided c = made_allowed
+
+pub returns-clause-left : goal.returns-clause-left
+returns-clause-left c = left_allowed
