@@ -1,6 +1,6 @@
 -- What the table makes over a legal history may come next.
-use Rattle.std.proofs.Common.{◌≡◌, ℕ, zero, suc, ◌+◌, ◌^◌, ◌<◌, ◌≤◌, max, Bool, true, false, not, ◌&&◌, ◌||◌, cond, eqb, List, [], ◌∷◌, ◌++◌, length, take, Option, Some, None, is_some, is_none, refl, sym, ap, subst, ◌∙◌, inl, inr, ◌⊎◌, arith}
-use Rattle.std.specs.Prelude.{option_map, option_and_then, find, slice_get, nat_le, nat_lt, ◌==◌, unwrap_or, IsTrue, IsSome, IfSome}
+use Rattle.std.proofs.Common.{◌≡◌, ℕ, ◌+◌, ◌^◌, ◌<◌, ◌≤◌, Bool, true, false, not, ◌||◌, cond, List, [], ◌∷◌, ◌++◌, length, Option, Some, None, is_none, refl, sym, ap, subst, ◌∙◌, arith}
+use Rattle.std.specs.Prelude.{option_and_then, find, nat_le, nat_lt, ◌==◌, unwrap_or, IfSome}
 use Rattle.std.specs.List.{list_any, position_from}
 use Rattle.std.specs.Option.{option_or}
 use Rattle.std.proofs.lemmas.Bool.{eqb-true, eq-eqb, leb-false, ltb-false, or_parts, not-true, not-false}
@@ -15,10 +15,9 @@ use Rattle.deal_changes.specs.declared.change.Stamp.{Stamp}
 use Rattle.deal_changes.specs.declared.change.Wish.{Wish}
 use Rattle.deal_changes.specs.declared.change.Change.{Change}
 use Rattle.deal_changes.specs.declared.change.Change.TheVariants.{Found, Enlist, Dismiss, Grant, Hold, Release, Deny, Turned, Polled, Settled, Revoke, Lapse}
-use Rattle.deal_changes.specs.Spelling.{IsBlob, IsShort, IsTid, IsStamp, IsWish, IsChange}
-use Rattle.deal_changes.specs.Times.{time_of_change, stamp_of}
-use Rattle.deal_model.specs.declared.states.Key.{Key}
-use Rattle.deal_model.specs.declared.states.Key.TheVariants.{Issue, Reply}
+use Rattle.deal_changes.specs.Spelling.{IsShort, IsTid, IsStamp, IsWish, IsChange}
+use Rattle.deal_changes.specs.Times.{time_of_change}
+use Rattle.deal_model.specs.declared.states.Key.TheVariants.{Issue}
 use Rattle.deal_model.specs.declared.states.CertificateState.{CertificateState}
 use Rattle.deal_model.specs.declared.states.CertificateState.TheVariants as certificates
 use Rattle.deal_model.specs.declared.states.DealState.{DealState}
@@ -31,17 +30,17 @@ use Rattle.deal_model.specs.declared.states.Owner.{Owner}
 use Rattle.deal_model.specs.declared.states.Standing.{Standing}
 use Rattle.deal_model.specs.declared.states.Standing.TheVariants.{Unknown, OtherKind, Barred, Good}
 use Rattle.deal_model.specs.Keys.{key_id, key_of, leaves_of}
-use Rattle.deal_model.specs.Views.{History, same, same_kind, time_of, settings_of, is_found, is_empty, is_grant_for, is_hold_for, is_grant_of, has_digest, is_confirmed, is_key_taken, certificate_state, open_or_closed, after_grant, ungranted_state, transaction_state, is_told, leaves_used, reply_leaves, leaves_in, owner_of, is_barred, standing_with, standing_of, standing_of_who}
-use Rattle.deal_model.specs.Rules.{Legal, Allowed, AllowedFrom, Holds, same_who, same_body, same_bool, same_wish, rights_as, rights_of, has_right, is_held_by, is_held_as, is_granted_to, reply_leaf, StampRule, StampHolds, GrantComes, GrantRule, GrantHolds, HoldHolds, TurnedHolds, PolledHolds, IsOpenPast, SettledHolds, RevokeHolds, size_of, log_size}
+use Rattle.deal_model.specs.Views.{History, same_kind, time_of, settings_of, is_found, is_empty, is_grant_for, is_hold_for, is_grant_of, has_digest, is_confirmed, is_key_taken, certificate_state, open_or_closed, after_grant, transaction_state, is_told, leaves_used, reply_leaves, leaves_in, owner_of, is_barred, standing_with, standing_of, standing_of_who}
+use Rattle.deal_model.specs.Rules.{Legal, Allowed, AllowedFrom, Holds, same_who, same_body, same_bool, same_wish, rights_as, is_held_by, is_held_as, is_granted_to, reply_leaf, StampHolds, IsOpenPast, size_of, log_size}
 use Rattle.deal_model.proofs.Histories.{allowed_at}
 use Rattle.deal_model.proofs.Leaves.{same_refl, found_passes}
 use Rattle.deal_table.specs.History.{Receipted, Deal, deal_in, deal_of, name_of, place_of_digest, event_time, owner_for, standing_for, is_full, grant_receipt}
-use Rattle.deal_table.specs.Message.{Enrolment, Confirmation, Polling, Withdrawal, Body, Enrols, Confirms, Polls, Withdraws, Nests, OtherBody, Header, Facts, FitsBody, FitsMessage, Letter, subject_of, is_version}
-use Rattle.deal_table.specs.Table.{Row, To, Decision, Makes, Refuses, Asks, Event, Sent, unless, pass, guarded, standing_now, may, may_enrol, may_revoke, is_on_hold, tid_of, is_unused, header_rows, new_rows, old_rows, is_of, party_rows, state_now, deal_now, stamp_by, grant_by, is_past_key, room_rows, made, wish_rows, key_rows, is_possessed, proof_rows, enrolled, enrols, granted_serial, deal_certificate, is_lost, confirm_rows, status_rows, compared, compared_with, settles, confirms, can_poll, poll_rows, entry_rows, polled, poll_made, polls, reason_rows, is_open, is_revoked, may_withdraw, revoke_rows, withdraws, about, decision}
+use Rattle.deal_table.specs.Message.{Enrolment, Confirmation, Polling, Withdrawal, Body, Enrols, Confirms, Polls, Withdraws, Nests, OtherBody, Facts, FitsBody, FitsMessage, Letter, subject_of, is_version}
+use Rattle.deal_table.specs.Table.{Row, To, Decision, Makes, Refuses, Asks, Event, Sent, unless, pass, guarded, standing_now, may_enrol, is_on_hold, tid_of, is_unused, header_rows, new_rows, old_rows, is_of, party_rows, state_now, deal_now, stamp_by, grant_by, is_past_key, room_rows, made, wish_rows, key_rows, is_possessed, proof_rows, enrolled, enrols, granted_serial, deal_certificate, is_lost, confirm_rows, status_rows, compared, compared_with, settles, confirms, can_poll, poll_rows, entry_rows, polled, poll_made, polls, reason_rows, is_open, is_revoked, may_withdraw, revoke_rows, withdraws, about, decision}
 use Rattle.deal_table.specs.Carry.{rest_body, rest_facts, rest_message, rest, left, FitsJob, FitsChecked}
 use Rattle.deal_table.proofs.Split.{rest_plain}
 use Rattle.deal_table.proofs.Rows.{false_true, second_passes}
-use Rattle.deal_table.proofs.Made.{unless_makes, IsMade, decision_makes}
+use Rattle.deal_table.proofs.Made.{unless_makes, decision_makes}
 use Rattle.deal_table.proofs.Senders.{found_place, grant_is, view_found, sender_stands}
 use Rattle.deal_table.proofs.Forms.{sender_form, few_leaves, leaf_form}
 
@@ -125,10 +124,10 @@ fresh : (h : History) (digest : List ℕ) → place_of_digest h digest ≡ None 
 unfolding place_of_digest
 fresh h digest e = none_any (has_digest digest) 1 h e
 
-abbrev IsAnyGrant : Change → Type 0
+abbrev pub IsAnyGrant : Change → Type 0
 IsAnyGrant c = (s : Stamp) × (b : Body4) × (w : Wish) × (serial : ℕ) × (leaf : ℕ) × (c ≡ Grant s b w serial leaf)
 
-grant_for_is : (tid : List ℕ) (c : Change) → is_grant_for tid c ≡ true → IsAnyGrant c
+pub grant_for_is : (tid : List ℕ) (c : Change) → is_grant_for tid c ≡ true → IsAnyGrant c
 grant_for_is tid (Grant s b w serial leaf) e = (s, b, w, serial, leaf, refl)
 grant_for_is tid (Found s) e = false_true _ e
 grant_for_is tid (Enlist time list) e = false_true _ e
@@ -142,10 +141,10 @@ grant_for_is tid (Settled s accepted) e = false_true _ e
 grant_for_is tid (Revoke s n reason) e = false_true _ e
 grant_for_is tid (Lapse time id) e = false_true _ e
 
-abbrev IsAnyHold : Change → Type 0
+abbrev pub IsAnyHold : Change → Type 0
 IsAnyHold c = (s : Stamp) × (b : Body4) × (w : Wish) × (c ≡ Hold s b w)
 
-hold_for_is : (tid : List ℕ) (c : Change) → is_hold_for tid c ≡ true → IsAnyHold c
+pub hold_for_is : (tid : List ℕ) (c : Change) → is_hold_for tid c ≡ true → IsAnyHold c
 hold_for_is tid (Hold s b w) e = (s, b, w, refl)
 hold_for_is tid (Found s) e = false_true _ e
 hold_for_is tid (Enlist time list) e = false_true _ e
@@ -307,11 +306,11 @@ enrol_held h t w m u e c g wish q =
 -- ---- a transaction
 
 -- a transaction that has a Grant is that Grant's, and its state is its certificate's
-granted_state : (h : History) (tid : List ℕ) (s : Stamp) (b : Body4) (w : Wish) (serial leaf : ℕ) → find (is_grant_for tid) h ≡ Some (Grant s b w serial leaf) → transaction_state h tid ≡ open_or_closed serial (certificate_state h serial)
+pub granted_state : (h : History) (tid : List ℕ) (s : Stamp) (b : Body4) (w : Wish) (serial leaf : ℕ) → find (is_grant_for tid) h ≡ Some (Grant s b w serial leaf) → transaction_state h tid ≡ open_or_closed serial (certificate_state h serial)
 unfolding transaction_state after_grant
 granted_state h tid s b w serial leaf e = rw e refl
 
-granted_deal : (h : History) (tid : List ℕ) (s : Stamp) (b : Body4) (w : Wish) (serial leaf : ℕ) → find (is_grant_for tid) h ≡ Some (Grant s b w serial leaf) → deal_of h tid ≡ Some (record { who = s.who; body = b; wish = w })
+pub granted_deal : (h : History) (tid : List ℕ) (s : Stamp) (b : Body4) (w : Wish) (serial leaf : ℕ) → find (is_grant_for tid) h ≡ Some (Grant s b w serial leaf) → deal_of h tid ≡ Some (record { who = s.who; body = b; wish = w })
 unfolding deal_of
 granted_deal h tid s b w serial leaf e = rw e refl
 

@@ -1,33 +1,25 @@
 -- What the table makes over a legal history has a spelling, where the message's parts have the lengths of a message.
-use Rattle.std.proofs.Common.{◌≡◌, ℕ, zero, suc, ◌+◌, ◌^◌, ◌<◌, ◌≤◌, Bool, true, false, not, ◌&&◌, ◌||◌, cond, eqb, List, [], ◌∷◌, ◌++◌, length, take, Option, Some, None, is_none, refl, sym, ap, subst, ◌∙◌, arith}
-use Rattle.std.specs.Prelude.{option_map, option_and_then, find, slice_get, nat_le, ◌==◌, unwrap_or, if◌then◌else◌, IfSome}
-use Rattle.std.specs.List.{list_any, AllByRecursion}
-use Rattle.std.proofs.lemmas.Bool.{eqb-true, leb-false, or_parts, not-false}
+use Rattle.std.proofs.Common.{◌≡◌, ℕ, zero, suc, ◌^◌, ◌<◌, ◌≤◌, Bool, true, false, ◌&&◌, List, [], ◌∷◌, length, take, Option, Some, None, refl, ap, subst, ◌∙◌, arith}
+use Rattle.std.specs.Prelude.{find, slice_get, ◌==◌, if◌then◌else◌, IfSome}
+use Rattle.std.specs.List.{AllByRecursion}
 use Rattle.std.proofs.lemmas.List.{length-take-le}
 use Rattle.std.proofs.lemmas.Option.{none-some, same_Some}
 use Rattle.sha2.specs.Sha256.{sha256}
 use Rattle.sha2.proofs.Facts256.{length-sha256}
 use Rattle.deal_changes.specs.declared.change.Kind.{Kind}
 use Rattle.deal_changes.specs.declared.change.Kind.TheVariants.{Mac, Lms}
-use Rattle.deal_changes.specs.declared.change.Who.{Who}
 use Rattle.deal_changes.specs.declared.change.Who.TheVariants.{Listed, Cert}
 use Rattle.deal_changes.specs.declared.change.Credential.{Credential}
-use Rattle.deal_changes.specs.declared.change.Stamp.{Stamp}
-use Rattle.deal_changes.specs.declared.change.Wish.{Wish}
-use Rattle.deal_changes.specs.declared.change.Body4.{Body4}
 use Rattle.deal_changes.specs.declared.change.Change.{Change}
 use Rattle.deal_changes.specs.declared.change.Change.TheVariants.{Found, Enlist, Dismiss, Grant, Hold, Release, Deny, Turned, Polled, Settled, Revoke, Lapse}
-use Rattle.deal_changes.specs.Spelling.{IsBlob, IsShort, IsTid, IsWho, IsStamp, IsWish, IsCredential, IsChange}
+use Rattle.deal_changes.specs.Spelling.{IsShort, IsWho, IsCredential}
 use Rattle.deal_model.specs.declared.states.Owner.{Owner}
-use Rattle.deal_model.specs.declared.states.Standing.TheVariants.{Good}
 use Rattle.deal_model.specs.Keys.{leaves_by_code, leaves_of, tree_of, key_id, key_of, is_lms_key}
-use Rattle.deal_model.specs.Views.{History, same, same_kind, is_entry, owner_of_credential, granted_owner, owner_in, has_owner, owner_of}
-use Rattle.deal_model.specs.Rules.{Legal, Allowed, IsNamed, IsListedKey, AreNew}
+use Rattle.deal_model.specs.Views.{History, same, same_kind, is_entry, owner_of_credential, owner_in, has_owner, owner_of}
+use Rattle.deal_model.specs.Rules.{Legal, IsNamed, AreNew}
 use Rattle.deal_model.proofs.Histories.{allowed_at}
 use Rattle.deal_table.specs.History.{owner_for}
-use Rattle.deal_table.specs.Message.{Facts}
-use Rattle.deal_table.proofs.Rows.{false_true}
-use Rattle.deal_table.proofs.Senders.{found_place, found_is, view_found, map_found, both, kind_is, some_if}
+use Rattle.deal_table.proofs.Senders.{found_place, found_is, view_found, map_found, both, same_is, some_if}
 
 -- ---- whoever sent
 
@@ -100,3 +92,47 @@ few_leaves key = by_code (tree_of key)
 pub leaf_form : (key : List ℕ) (leaf : Option ℕ) → IfSome leaf (λ l. l < leaves_of key) → IfSome leaf (λ l. l < 2 ^ 32)
 leaf_form key (Some l) below = let most : leaves_of key ≤ 2 ^ 25 = few_leaves key in omega arith
 leaf_form key None below = tt
+
+-- ---- nobody has the empty identifier
+
+named_some : (k : Kind) (kid key : List ℕ) → IsNamed k kid key → 1 ≤ length kid
+named_some Mac kid key named = named.kid_low
+named_some Lms kid key named = let whole : length kid ≡ 20 = ap (λ (x : List ℕ). length x) named.named ∙ key_id_length key in omega arith
+
+unnamed : (kid : List ℕ) → kid ≡ [] → 1 ≤ length kid → ⊥
+unnamed kid e some = let none : length kid ≡ 0 = ap (λ (x : List ℕ). length x) e in absurd (omega arith)
+
+owner_named : (h : History) (kind : Kind) (o : Owner) (c : Change) (i : ℕ) → Legal h → slice_get h i ≡ Some c → owner_in kind [] c ≡ Some o → ⊥
+owner_named h kind o (Enlist time list) i legal stands given =
+    let credential = map_found owner_of_credential (find (is_entry kind []) list) o given in
+    let place = found_place (is_entry kind []) list credential.0 credential.1 in
+    let allowed = allowed_at [] h legal.1 i (Enlist time list) stands in
+    let entry = both (same_kind credential.0.kind kind) (same credential.0.kid []) (found_is (is_entry kind []) list credential.0 credential.1) in
+    unnamed credential.0.kid (same_is credential.0.kid [] entry.1) (named_some credential.0.kind credential.0.kid credential.0.material (listed_named (take i h) list credential.0 place.0 allowed.holds.2 place.1))
+owner_named h Lms o (Grant s b w serial leaf) i legal stands given =
+    let grant = some_if (is_lms_key w.spki && same (key_id (key_of w.spki)) []) (record { who = Cert serial; key = key_of w.spki; rights = 1 }) o given in
+    let whole : length (key_id (key_of w.spki)) ≡ 20 = key_id_length (key_of w.spki) in
+    unnamed (key_id (key_of w.spki)) (same_is (key_id (key_of w.spki)) [] (both (is_lms_key w.spki) (same (key_id (key_of w.spki)) []) grant.0).1) (omega arith)
+owner_named h Mac o (Grant s b w serial leaf) i legal stands given = none-some o given
+owner_named h kind o (Found s) i legal stands given = none-some o given
+owner_named h kind o (Dismiss time w) i legal stands given = none-some o given
+owner_named h kind o (Hold s b w) i legal stands given = none-some o given
+owner_named h kind o (Release time id) i legal stands given = none-some o given
+owner_named h kind o (Deny time id) i legal stands given = none-some o given
+owner_named h kind o (Turned s) i legal stands given = none-some o given
+owner_named h kind o (Polled s) i legal stands given = none-some o given
+owner_named h kind o (Settled s accepted) i legal stands given = none-some o given
+owner_named h kind o (Revoke s n reason) i legal stands given = none-some o given
+owner_named h kind o (Lapse time id) i legal stands given = none-some o given
+
+pub nobody : (h : History) (kind : Option Kind) → Legal h → owner_for h kind [] ≡ None
+unfolding owner_of
+nobody h None legal = refl
+nobody h (Some kind) legal = by_owner (owner_of h kind []) refl
+  where
+    by_owner : (found : Option Owner) → owner_of h kind [] ≡ found → found ≡ None
+    by_owner None e = refl
+    by_owner (Some o) e =
+        let given = view_found (owner_in kind []) (find (has_owner kind []) h) o e in
+        let place = found_place (has_owner kind []) h given.0 given.1 in
+        absurd (owner_named h kind o given.0 place.0 legal place.1 given.2)

@@ -11,4 +11,5 @@ pub mod Made
 pub mod Senders
 pub mod Forms
 pub mod Allowed
+pub mod Deals
 pub mod Examples

@@ -1,5 +1,5 @@
 -- In a legal history a credential's owner stands as the credential does.
-use Rattle.std.proofs.Common.{◌≡◌, ℕ, zero, suc, ◌≤◌, Bool, true, false, ◌&&◌, cond, eqb, List, [], ◌∷◌, take, Option, Some, None, refl, sym, ap, subst, ◌∙◌, arith}
+use Rattle.std.proofs.Common.{◌≡◌, ℕ, suc, Bool, true, false, ◌&&◌, cond, List, [], ◌∷◌, Option, Some, None, refl, sym, ap, ◌∙◌}
 use Rattle.std.specs.Prelude.{option_map, option_and_then, find, slice_get, if◌then◌else◌}
 use Rattle.std.proofs.lemmas.Bool.{eqb-true, eq-eqb}
 use Rattle.std.proofs.lemmas.Option.{none-some, same_Some}
@@ -15,13 +15,12 @@ use Rattle.deal_changes.specs.declared.change.Body4.{Body4}
 use Rattle.deal_changes.specs.declared.change.Change.{Change}
 use Rattle.deal_changes.specs.declared.change.Change.TheVariants.{Found, Enlist, Dismiss, Grant, Hold, Release, Deny, Turned, Polled, Settled, Revoke, Lapse}
 use Rattle.deal_model.specs.declared.states.Owner.{Owner}
-use Rattle.deal_model.specs.declared.states.Standing.{Standing}
-use Rattle.deal_model.specs.declared.states.Standing.TheVariants.{Unknown, OtherKind, Barred, Good}
+use Rattle.deal_model.specs.declared.states.Standing.TheVariants.{Good}
 use Rattle.deal_model.specs.Keys.{key_id, key_of, is_lms_key}
 use Rattle.deal_model.specs.Views.{History, same, same_kind, is_entry, is_grant_of, owner_of_credential, granted_owner, owner_in, has_owner, owner_of, is_barred, standing_of, standing_of_grant, standing_of_who}
 use Rattle.deal_model.specs.Rules.{Legal}
 use Rattle.deal_model.proofs.Leaves.{serials, none_passes, found_passes}
-use Rattle.deal_table.specs.History.{owner_for, standing_for}
+use Rattle.deal_table.specs.History.{owner_for}
 use Rattle.deal_table.proofs.Rows.{false_true}
 
 -- ---- what is found

@@ -1,17 +1,18 @@
 -- What holds of a history's answers and of the table.
-use Rattle.std.specs.Prelude.{◌≡◌, ◌⊎◌, ℕ, ◌≤◌, Bool, List, ◌++◌, length, Option, Some, is_some, find}
+use Rattle.std.specs.Prelude.{◌≡◌, ◌⊎◌, ℕ, ◌≤◌, Bool, false, not, List, [], ◌++◌, length, Option, Some, None, is_some, find}
+use Rattle.std.specs.List.{list_any}
 use Rattle.deal_changes.specs.declared.change.Kind.{Kind}
 use Rattle.deal_changes.specs.declared.change.Settings.{Settings}
 use Rattle.deal_changes.specs.declared.change.Change.{Change}
-use Rattle.deal_changes.specs.Times.{time_of_change}
+use Rattle.deal_changes.specs.Times.{time_of_change, tid_of}
 use Rattle.deal_model.specs.declared.states.Owner.{Owner}
-use Rattle.deal_model.specs.Views.{History, founding}
+use Rattle.deal_model.specs.Views.{History, same, founding, transaction_state}
 use Rattle.deal_model.specs.Rules.{Allowed, Legal}
 use Rattle.deal_model.specs.declared.asking.Checked.{Checked}
 use Rattle.deal_table.specs.declared.fail.FailInfo.{FailInfo}
-use Rattle.deal_table.specs.History.{Receipted, Begins, place_of, owner_for, event_time, receipt_at, grant_receipt}
+use Rattle.deal_table.specs.History.{Receipted, Begins, deal_of, place_of, owner_for, event_time, receipt_at, grant_receipt}
 use Rattle.deal_table.specs.Message.{FitsMessage, Letter, subject_of, blind}
-use Rattle.deal_table.specs.Table.{To, Makes, Refuses, Asks, decision}
+use Rattle.deal_table.specs.Table.{To, is_unused, is_deal, Makes, Refuses, Asks, decision}
 use Rattle.deal_table.specs.Served.{decision_so_far, IsServedSoFar}
 use Rattle.deal_table.specs.Carry.{left, FitsChecked, Carries, untold, HashIsTold, as_told, IsStale, carried_to}
 
@@ -74,6 +75,28 @@ MakesTheAllowed = (h : History) (l : Letter) (now : ℕ) (w : List ℕ) (c : Cha
 abbrev pub LeftMakesTheAllowed : Type 0
 LeftMakesTheAllowed = (h : History) (k : Checked) (now : ℕ) (w : List ℕ) (c : Change) → Legal h → FitsChecked k → now ≤ 250000000000 → length w ≡ 32 → left h k now w ≡ Makes c
     → Allowed h c × (time_of_change c ≡ event_time h now)
+
+-- ---- what legal histories say
+
+-- nobody has the empty identifier, as which an absent senderKID is read
+abbrev pub NobodyIsUnnamed : Type 0
+NobodyIsUnnamed = (h : History) (kind : Option Kind) → Legal h → owner_for h kind [] ≡ None
+
+abbrev pub is_tid : List ℕ → Option (List ℕ) → Bool
+is_tid tid (Some id) = same id tid
+is_tid tid None = false
+
+-- a change of this transaction
+abbrev pub is_change_for : List ℕ → Change → Bool
+is_change_for tid c = is_tid tid (tid_of c)
+
+-- a transaction is unused by its state exactly where no change has its transactionID
+abbrev pub UnusedHasNoChange : Type 0
+UnusedHasNoChange = (h : History) (tid : List ℕ) → Legal h → is_unused (transaction_state h tid) ≡ not (list_any (is_change_for tid) h)
+
+-- a request began it by its state exactly where a Grant or a Hold has its transactionID
+abbrev pub DealHasGrantOrHold : Type 0
+DealHasGrantOrHold = (h : History) (tid : List ℕ) → Legal h → is_deal (transaction_state h tid) ≡ is_some (deal_of h tid)
 
 -- ---- what is served so far
 

@@ -1,6 +1,6 @@
 -- What a message says, as far as a decision asks. Of its octets only these facts are asked, so the table knows no octets. What
 -- the octets settle beside a key or a certificate is a function of it.
-use Rattle.std.specs.Prelude.{◌≡◌, ℕ, ◌<◌, ◌^◌, Bool, true, false, ◌||◌, ◌==◌, List, length, Option, Some, None, IfSome, if◌then◌else◌}
+use Rattle.std.specs.Prelude.{◌≡◌, ℕ, ◌<◌, ◌^◌, Bool, true, false, ◌||◌, ◌==◌, List, length, Option, None, IfSome, if◌then◌else◌}
 use Rattle.deal_changes.specs.declared.change.Kind.{Kind}
 use Rattle.deal_changes.specs.declared.change.Body4.{Body4}
 use Rattle.deal_changes.specs.declared.change.Wish.{Wish}

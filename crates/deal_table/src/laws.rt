@@ -1,5 +1,5 @@
 //! Laws of the table, each the contract of a function that does nothing.
-ghost use Rattle.deal_table.specs.Laws.{SettingsStay, OwnersStay, FirstsStay, PlacesStay, ReceiptsStay, GrantReceiptsStay, IsDecidedByTheRest, DecidesOrAsks, RefusesToTheCarried, AsksOfTheStale, DecidesByTheTime, MakesTheAllowed, LeftMakesTheAllowed, ServedIsWhole};
+ghost use Rattle.deal_table.specs.Laws.{SettingsStay, OwnersStay, FirstsStay, PlacesStay, ReceiptsStay, GrantReceiptsStay, IsDecidedByTheRest, DecidesOrAsks, RefusesToTheCarried, AsksOfTheStale, DecidesByTheTime, MakesTheAllowed, LeftMakesTheAllowed, UnusedHasNoChange, DealHasGrantOrHold, NobodyIsUnnamed, ServedIsWhole};
 
 /// What a history has settled stands in each later one: what the service was founded with; to whom a credential belongs; the
 /// first change of any sort, and its place; what the reply to a change needs.
@@ -28,6 +28,14 @@ pub fn what_is_left_decides()
 pub fn what_is_made_is_allowed()
     ensures decided { MakesTheAllowed }
     ensures left { LeftMakesTheAllowed }
+{}
+
+/// What the rows say of a legal history: a transaction is unused exactly where no change has its transactionID; a request began
+/// it exactly where a Grant or a Hold has it; and where the senderKID is absent nobody is known.
+pub fn what_legal_histories_say()
+    ensures unused { UnusedHasNoChange }
+    ensures deal { DealHasGrantOrHold }
+    ensures nobody { NobodyIsUnnamed }
 {}
 
 /// A message that is served so far is decided by the whole table.

@@ -12,5 +12,6 @@ mod look;
 pub use fail::FailInfo;
 pub use laws::{
     what_is_left_decides, what_is_made_is_allowed, what_is_served_is_whole, what_is_settled_stays,
+    what_legal_histories_say,
 };
 pub use look::Look;

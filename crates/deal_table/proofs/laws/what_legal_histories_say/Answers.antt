@@ -1,0 +1,12 @@
+use Rattle.deal_table.proofs.Deals.{unused_has, deal_has}
+use Rattle.deal_table.proofs.Forms.{nobody}
+use Rattle.deal_table.proofs.laws.what_legal_histories_say.Goals as goal
+
+pub returns-clause-unused : goal.returns-clause-unused
+returns-clause-unused c = unused_has
+
+pub returns-clause-deal : goal.returns-clause-deal
+returns-clause-deal c = deal_has
+
+pub returns-clause-nobody : goal.returns-clause-nobody
+returns-clause-nobody c = nobody
