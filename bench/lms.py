@@ -1,7 +1,7 @@
 """Joins the timings of LMS as join.py does, and says how they grow with the height and how far they are from the limit.
 
-Words: those of join.py. The limit is the time of the compressions that an operation can't do without, each as long
-as a hash over 55 octets takes in the same run: one compression a step of a chain.
+Words: those of join.py. The limit is the time of the compressions that an operation can't do without, one a step of a
+chain: each as long as a hash over 55 octets takes in the same run, or four at once as long as our four lanes take.
 """
 
 import sys
@@ -31,9 +31,9 @@ def of_tree(height: int) -> int:
 
 
 def growth(titles: list[str], least: list[dict[str, int]]) -> None:
-    for operation in ("grow", "sign", "verify"):
+    for operation in ("grow {}", "sign {}, average leaf", "verify {}"):
         for low, high in zip(HEIGHTS, HEIGHTS[1:]):
-            first, second = (f"{operation} h{height} {SET}" for height in (low, high))
+            first, second = (operation.format(f"h{height} {SET}") for height in (low, high))
             parts = [f"{title} {side[second] / side[first]:.2f} times" for title, side in zip(titles, least)
                      if first in side and second in side]
             if parts:
@@ -47,6 +47,10 @@ def limit(ours: dict[str, int]) -> None:
             least = count * ours["compression"]
             print(f"{name}: {count} compressions of {ours['compression']} ns are {least / 1000:.1f} us;"
                   f" ours takes {ours[name] / least:.2f} times that")
+            if "four compressions" in ours:
+                least = count / 4 * ours["four compressions"]
+                print(f"{name}: four at once in {ours['four compressions']} ns they are {least / 1000:.1f} us;"
+                      f" ours takes {ours[name] / least:.2f} times that")
 
 
 def main() -> None:

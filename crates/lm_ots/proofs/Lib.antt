@@ -2,4 +2,5 @@ pub mod ChainLemmas
 pub mod FourLemmas
 pub mod Law
 pub mod Messages
+mod PaddedLemmas
 pub mod Parts

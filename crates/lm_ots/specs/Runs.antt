@@ -1,5 +1,6 @@
 -- Chains that run side by side, a few at a time.
-use Rattle.std.specs.Prelude.{ℕ, ◌≡◌, ◌≢◌, ◌-◌, ◌<◌, ◌≤◌, List, [], length, slice_index, slice_index_or}
+use Rattle.std.specs.Prelude.{ℕ, ◌≡◌, ◌≢◌, ◌-◌, ◌<◌, ◌≤◌, List, [], ◌++◌, length, replicate, slice_index, slice_index_or, take}
+use Rattle.sha2.specs.Sha256.{padded_message}
 use Rattle.lm_ots.specs.Chains.{chain}
 
 -- where chain i ends that begins at its place and value
@@ -36,3 +37,11 @@ SettledOrWaiting f values picks n x = NotPicked picks n x → Settled f values x
 -- each of the four picks is below the count
 abbrev pub AreBelow : List ℕ → ℕ → Type 0
 AreBelow picks count = (k : ℕ) → k < 4 → slice_index picks k < count
+
+-- the octets of a message of this length, and only zeros behind them
+abbrev pub IsFilled : List ℕ → List ℕ → ℕ → Type 0
+IsFilled octets message size = (length message ≡ size) × (octets ≡ message ++ replicate (8512 - size) 0)
+
+-- the octets begin with a message and its padding, of this length
+abbrev pub BeginsPadded : List ℕ → List ℕ → ℕ → Type 0
+BeginsPadded octets message size = (length (padded_message message) ≡ size) × (take size octets ≡ padded_message message)

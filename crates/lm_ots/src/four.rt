@@ -3,16 +3,17 @@
 ghost use Rattle.std.specs.Prelude.{◌≡◌, ℕ, List, [], ◌<◌, ◌≤◌, ◌^◌, true, false, length, slice_index, slice_index_or};
 ghost use Rattle.sha2.specs.Sha256.{digest_bytes};
 ghost use Rattle.sha_lanes.specs.Blocks.{IsFrontOf};
+ghost use Rattle.sha_lanes.specs.Fronts.{HasFront};
 ghost use Rattle.sha_lanes.specs.Lanes.{lane};
 ghost use Rattle.lm_ots.specs.Chains.{chain, prefix, secret};
 ghost use Rattle.lm_ots.specs.Runs.{AreBelow, Settled, SettledOrWaiting};
 
 use crate::message::step_message;
-use sha_lanes::{choose, digest_parts, front_words, value_octets, value_words};
+use sha_lanes::{choose, digest_parts, first_rounds, front_words, value_octets, value_words};
 use std::simd::u32x4;
 
 // What the message of each step of chain `i` begins with.
-fn front_of(id: &[u8; 16], q: u32, i: u16) -> [u8; 22]
+pub(crate) fn front_of(id: &[u8; 16], q: u32, i: u16) -> [u8; 22]
     ensures { result ≡ prefix id.now q i }
 {
     let message = step_message(id, q, i, &[0; 32]);
@@ -77,8 +78,14 @@ fn takes(from: u8, to: u8, j: u8) -> bool
 
 // Runs four chains, each from its place to its end. A lane that isn't at its place yet, or has reached its end, keeps
 // its value while the others go on.
-fn walk(front: &[u32x4; 6], from: &[u8; 4], to: &[u8; 4], start: [u32x4; 8]) -> [u32x4; 8]
-    ensures { (k q i : ℕ) (id : List ℕ) → k < 4 → IsFrontOf (prefix id q i) (lane k front.now)
+fn walk(
+    front: &[u32x4; 6],
+    started: &[u32x4; 8],
+    from: &[u8; 4],
+    to: &[u8; 4],
+    start: [u32x4; 8],
+) -> [u32x4; 8]
+    ensures { (k q i : ℕ) (id : List ℕ) → k < 4 → HasFront k (prefix id q i) front.now started.now
         → digest_bytes (lane k result) 8
         ≡ chain id q i (slice_index from.now k) (slice_index to.now k) (digest_bytes (lane k start) 8) }
 {
@@ -90,7 +97,7 @@ fn walk(front: &[u32x4; 6], from: &[u8; 4], to: &[u8; 4], start: [u32x4; 8]) -> 
             takes(from[2], to[2], j),
             takes(from[3], to[3], j),
         ];
-        let digest = digest_parts(front, j, &value);
+        let digest = digest_parts(front, started, j, &value);
         let next = choose(&takers, &digest, &value);
         value = next;
     }
@@ -111,7 +118,8 @@ pub(crate) fn four_chains(
         ≡ chain id.now q (slice_index picks.now k) (slice_index from.now k) (slice_index to.now k) (slice_index_or starts.now k []) }
 {
     let front = fronts(id, q, picks);
-    value_octets(&walk(&front, from, to, value_words(starts)))
+    let started = first_rounds(&front);
+    value_octets(&walk(&front, &started, from, to, value_words(starts)))
 }
 
 /// The private values of four chains of one-time key `q` (RFC 8554, appendix A).
@@ -125,7 +133,8 @@ pub(crate) fn four_secrets(
     ensures { (k : ℕ) → k < 4 → slice_index_or result k [] ≡ secret seed.now id.now q (slice_index picks.now k) }
 {
     let front = fronts(id, q, picks);
-    value_octets(&digest_parts(&front, 0xff, &value_words(&[*seed; 4])))
+    let started = first_rounds(&front);
+    value_octets(&digest_parts(&front, &started, 0xff, &value_words(&[*seed; 4])))
 }
 
 // Writes four values to the places that were picked.

@@ -6,6 +6,7 @@
 //! gives the key away: no call here keeps count.
 #![tactic(auto)]
 
+pub use four_keys::public_hashes_in;
 pub use key::{KeyPart, public_hash, public_hash_in};
 pub use message::opened;
 pub use signature::{
@@ -16,6 +17,7 @@ pub use signature::{
 mod all;
 mod chain;
 mod four;
+mod four_keys;
 mod key;
 mod message;
 mod signature;

@@ -3,8 +3,11 @@
 
 use crate::all::{ends, secrets};
 use crate::chain::{chain, secret_chain};
-use crate::{KeyPart, SignFault, candidate, public_hash, sign_ots, signature_leads_to_key};
+use crate::{
+    KeyPart, SignFault, candidate, public_hash, public_hashes_in, sign_ots, signature_leads_to_key,
+};
 use cmp_ports::Octets;
+use lms_params::with_ots;
 use sha2::{Digest, Sha256};
 use std::test::Fail;
 
@@ -96,6 +99,18 @@ fn public_hashes_of_each_set(rt: HostRuntime) {
         );
     }
     assert_eq!(rt; public_hash(&first_key(5), 0), None);
+}
+
+#[test]
+fn public_hashes_four_at_a_time(rt: HostRuntime) {
+    for vector in &VECTORS {
+        let first = first_key(vector.ots);
+        let hashes = with_ots!(vector.ots, |set| public_hashes_in(set, &first, 0));
+        assert_eq!(rt; hashes.map(|four| four[0]), Some(*vector.first));
+        let second = second_key(vector.ots);
+        let hashes = with_ots!(vector.ots, |set| public_hashes_in(set, &second, Q - 3));
+        assert_eq!(rt; hashes.map(|four| four[3]), Some(*vector.second));
+    }
 }
 
 #[test]

@@ -9,7 +9,7 @@ use cmp_ports::Octets;
 use lm_ots::{KeyPart, candidate, public_hash, sign_ots};
 use std::time::{Clock, Instant};
 use std::{env, io};
-use trees::{TREES, compression_time, grow_time, signature_times};
+use trees::{TREES, compression_time, four_compressions_time, grow_time, signature_times};
 
 /// How many turns a timing has. They are short, so that some run without a pause.
 const TURNS: u32 = 300;
@@ -96,6 +96,8 @@ fn main(rt: HostRuntime) -> io::Result<()> {
     let mut seen = 0;
     let nanos = compression_time(&rt, &mut seen)?;
     println!(rt; "compression\t{nanos}")?;
+    let nanos = four_compressions_time(&rt, &mut seen)?;
+    println!(rt; "four compressions\t{nanos}")?;
     for (operation, name, ots, count) in TIMINGS {
         let key = KeyPart {
             seed: *SEED,
@@ -111,8 +113,9 @@ fn main(rt: HostRuntime) -> io::Result<()> {
         }
         let (nanos, key) = grow_time(&rt, rt.alloc(), tree.set, tree.turns)?;
         println!(rt; "grow {}\t{nanos}", tree.name)?;
-        let (signed, verified) = signature_times(&rt, &key, &mut seen)?;
-        println!(rt; "sign {}\t{signed}", tree.name)?;
+        let [cheapest, average, verified] = signature_times(&rt, &key, &mut seen)?;
+        println!(rt; "sign {}, cheapest leaf\t{cheapest}", tree.name)?;
+        println!(rt; "sign {}, average leaf\t{average}", tree.name)?;
         println!(rt; "verify {}\t{verified}", tree.name)?;
     }
     println!(rt; "seen {seen}")?;

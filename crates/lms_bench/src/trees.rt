@@ -2,9 +2,11 @@
 
 use crate::{ID, SEED, TEXT};
 use lms_tree::{GrowFault, Set, TreeKey, verify};
+use sha_lanes::compress4;
 use sha2::{Digest, Sha256};
 use std::alloc::Global;
 use std::io;
+use std::simd::u32x4;
 use std::time::{Clock, Instant};
 
 /// A tree that is timed: how its timings are called, its sets, and how often it is grown.
@@ -39,8 +41,10 @@ pub const TREES: [Timing; 4] = [
     },
 ];
 
-/// How many signatures are made and verified of a tree.
-const SIGNATURES: u32 = 200;
+/// How many leaves of a tree sign, and how often each of them signs and its signature is verified.
+const LEAVES: u32 = 25;
+
+const SIGNATURES: u32 = 20;
 
 /// How many hashes of one block a turn has, and how many turns there are.
 const HASHES: u32 = 20;
@@ -58,6 +62,23 @@ pub fn compression_time<C: Clock>(clock: &C, seen: &mut u8) -> io::Result<u128> 
         least = least.min(start.elapsed(clock)?.as_nanos() / u128::from(HASHES));
     }
     *seen ^= block[0];
+    Ok(least)
+}
+
+/// The nanoseconds of four compressions side by side.
+pub fn four_compressions_time<C: Clock>(clock: &C, seen: &mut u8) -> io::Result<u128> {
+    let words = [u32x4::splat(1); 16];
+    let mut state = [u32x4::splat(2); 8];
+    let mut least = u128::MAX;
+    for _ in 0..1000u32 {
+        let start = Instant::now(clock)?;
+        for _ in 0..HASHES {
+            let next = compress4(state, &words);
+            state = next;
+        }
+        least = least.min(start.elapsed(clock)?.as_nanos() / u128::from(HASHES));
+    }
+    *seen ^= state[0].as_array()[0] as u8;
     Ok(least)
 }
 
@@ -88,10 +109,25 @@ fn grow(alloc: Global, set: Set) -> io::Result<TreeKey> {
     }
 }
 
-/// The nanoseconds of signing by the first leaf and of verifying, the least of some turns each.
-pub fn signature_times<C: Clock>(
+/// The nanoseconds of signing by the cheapest of some leaves and by the average one, and of verifying.
+pub fn signature_times<C: Clock>(clock: &C, key: &TreeKey, seen: &mut u8) -> io::Result<[u128; 3]> {
+    let mut cheapest = u128::MAX;
+    let mut sum = 0u128;
+    let mut verifying = u128::MAX;
+    for leaf in 0..LEAVES {
+        let (signed, verified) = leaf_times(clock, key, leaf, seen)?;
+        cheapest = cheapest.min(signed);
+        sum = sum.wrapping_add(signed);
+        verifying = verifying.min(verified);
+    }
+    Ok([cheapest, sum / u128::from(LEAVES), verifying])
+}
+
+// The nanoseconds of signing by a leaf and of verifying its signature, the least of some turns each.
+fn leaf_times<C: Clock>(
     clock: &C,
     key: &TreeKey,
+    leaf: u32,
     seen: &mut u8,
 ) -> io::Result<(u128, u128)> {
     let public = key.public();
@@ -99,7 +135,7 @@ pub fn signature_times<C: Clock>(
     let mut verifying = u128::MAX;
     for _ in 0..SIGNATURES {
         let start = Instant::now(clock)?;
-        let Ok(sig) = key.sign(0, TEXT) else {
+        let Ok(sig) = key.sign(leaf, TEXT) else {
             return Err(io::Error::from(io::ErrorKind::OutOfMemory));
         };
         signing = signing.min(start.elapsed(clock)?.as_nanos());

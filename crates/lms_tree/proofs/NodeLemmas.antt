@@ -1,10 +1,11 @@
 -- The two cases of a node, and nodes that are written one after the other.
-use Rattle.std.proofs.Common.{◌≡◌, ◌≢◌, ℕ, zero, suc, ◌+◌, ◌-◌, ◌*◌, ◌^◌, ◌<◌, ◌≤◌, List, [], length, get_or, refl, sym, ◌∙◌, ap, ap₂, arith, inl, inr, true, false}
-use Rattle.std.specs.Prelude.{Bool, nat_le, slice_set, if◌then◌else◌}
+use Rattle.std.proofs.Common.{◌≡◌, ◌≢◌, ℕ, zero, suc, ◌+◌, ◌-◌, ◌*◌, ◌/◌, ◌^◌, ◌<◌, ◌≤◌, List, [], length, get_or, refl, sym, ◌∙◌, ap, ap₂, arith, subst, inl, inr, true, false}
+use Rattle.std.specs.Prelude.{Bool, IsTrue, ◌==◌, nat_le, slice_set, if◌then◌else◌}
 use Rattle.std.proofs.Math.Nat.{pow-succ', mul-le-mul_left}
-use Rattle.std.proofs.lemmas.Bool.{cases_lt, le-leb, lt-leb}
+use Rattle.std.proofs.lemmas.Bool.{cases_lt, eqb-true, le-leb, lt-leb, or_cases}
 use Rattle.std.proofs.lemmas.List.{get_or-set_same, get_or-set_other}
 use Rattle.std.proofs.Math.ListN.{length-set}
+use Rattle.lms_params.specs.Parameters.{is_height}
 use Rattle.lms_tree.specs.Nodes.{node_within, node, leaf_hash, inner_hash, AreNodes}
 
 -- a choice whose test holds, or does not
@@ -104,3 +105,57 @@ are_more_down keys id h r last nodes value within is a = record {
         ∙ get_or-set_same nodes r value [] (omega arith) ∙ is ∙ ap (node keys id h) (sym same))
   ];
 }
+
+-- a tree's leaves are whole groups of four
+at_height : (a h : ℕ) → 4 * (2 ^ a / 4) ≡ 2 ^ a → (h == a) ≡ true → 4 * (2 ^ h / 4) ≡ 2 ^ h
+at_height a h whole is = subst (λ (n : ℕ). 4 * (2 ^ n / 4) ≡ 2 ^ n) (sym (eqb-true h a is)) whole
+
+pub whole_groups : (h : ℕ) → IsTrue (is_height h) → 4 * (2 ^ h / 4) ≡ 2 ^ h
+whole_groups h is =
+    elim (or_cases _ _ is) [
+      | inl below25 ↦ elim (or_cases _ _ below25) [
+        | inl below20 ↦ elim (or_cases _ _ below20) [
+          | inl below15 ↦ elim (or_cases _ _ below15) [
+            | inl five ↦ at_height 5 h refl five
+            | inr ten ↦ at_height 10 h refl ten
+          ]
+          | inr fifteen ↦ at_height 15 h refl fifteen
+        ]
+        | inr twenty ↦ at_height 20 h refl twenty
+      ]
+      | inr highest ↦ at_height 25 h refl highest
+    ]
+
+-- what holds of each of four
+pub below_four : (P : ℕ → Type 0) → P 0 → P 1 → P 2 → P 3 → (k : ℕ) → k < 4 → P k
+below_four P p0 p1 p2 p3 zero low = p0
+below_four P p0 p1 p2 p3 (suc zero) low = p1
+below_four P p0 p1 p2 p3 (suc (suc zero)) low = p2
+below_four P p0 p1 p2 p3 (suc (suc (suc zero))) low = p3
+below_four P p0 p1 p2 p3 (suc (suc (suc (suc n)))) low = absurd (omega arith)
+
+-- four nodes more behind the last
+pub are_four_more : (keys : ℕ → List ℕ) (id : List ℕ) (h first r : ℕ) (nodes : List (List ℕ)) (a b c d : List ℕ)
+    → r + 4 ≤ length nodes → a ≡ node keys id h (r + 0) → b ≡ node keys id h (r + 1) → c ≡ node keys id h (r + 2) → d ≡ node keys id h (r + 3)
+    → AreNodes keys id h first r nodes
+    → AreNodes keys id h first (r + 4) (slice_set (slice_set (slice_set (slice_set nodes r a) (r + 1) b) (r + 2) c) (r + 3) d)
+are_four_more keys id h first r nodes a b c d within is_a is_b is_c is_d are =
+    let size = are.count in
+    let here : r + 0 ≡ r = omega arith in
+    let one = are_more_up keys id h first r nodes a (omega arith) (is_a ∙ ap (node keys id h) here) are in
+    let two = are_more_up keys id h first (r + 1) (slice_set nodes r a) b (omega arith) is_b one in
+    let second : r + 1 + 1 ≡ r + 2 = omega arith in
+    let three = are_more_up keys id h first (r + 2) (slice_set (slice_set nodes r a) (r + 1) b) c (omega arith) is_c
+    (subst (λ (n : ℕ). AreNodes keys id h first n (slice_set (slice_set nodes r a) (r + 1) b)) second two) in
+    let third : r + 2 + 1 ≡ r + 3 = omega arith in
+    let four = are_more_up keys id h first (r + 3) (slice_set (slice_set (slice_set nodes r a) (r + 1) b) (r + 2) c) d (omega arith) is_d
+    (subst (λ (n : ℕ). AreNodes keys id h first n (slice_set (slice_set (slice_set nodes r a) (r + 1) b) (r + 2) c)) third three) in
+    let fourth : r + 3 + 1 ≡ r + 4 = omega arith in
+    subst (λ (n : ℕ). AreNodes keys id h first n (slice_set (slice_set (slice_set (slice_set nodes r a) (r + 1) b) (r + 2) c) (r + 3) d)) fourth four
+
+-- the node of a leaf
+pub leaf_is : (keys : ℕ → List ℕ) (id : List ℕ) (h q k r : ℕ) (key value : List ℕ) → key ≡ keys (q + k) → r ≡ 2 ^ h + q + k → value ≡ leaf_hash id r key
+    → value ≡ node keys id h (2 ^ h + q + k)
+leaf_is keys id h q k r key value is at hashed =
+    let leaf : q + k ≡ 2 ^ h + q + k - 2 ^ h = omega arith in
+    hashed ∙ ap₂ (leaf_hash id) at (is ∙ ap keys leaf) ∙ sym (node_leaf keys id h (2 ^ h + q + k) (omega arith))

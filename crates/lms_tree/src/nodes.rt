@@ -1,30 +1,49 @@
 // The nodes of a tree in one array, node `r` at index `r`; index 0 is not used.
 
-ghost use Rattle.std.specs.Prelude.{◌≡◌, ℕ, List, ◌+◌, ◌*◌, ◌^◌, ◌<◌, ◌↔◌, length, None, IfOk, IfSome, MatchOption};
+ghost use Rattle.std.specs.Prelude.{◌≡◌, ℕ, List, [], ◌+◌, ◌*◌, ◌^◌, ◌<◌, ◌≤◌, ◌↔◌, length, slice_index_or, None, IfOk, IfSome, MatchOption};
 ghost use Rattle.lms_params.specs.Parameters.{ots_row};
 ghost use Rattle.lm_ots.specs.Chains.{ots_key};
 ghost use Rattle.lms_tree.specs.Nodes.{AreNodes, node};
 
 use crate::hash::{inner_hash, leaf_hash};
-use lm_ots::{KeyPart, public_hash_in};
+use lm_ots::{KeyPart, public_hashes_in};
 use lms_params::{Ots, Tree, with_ots};
 use std::alloc::{AllocError, Global};
 
-// The node of leaf `q`.
-fn leaf_at<const H: u32, const W: u32, const P: usize, const LS: u32>(
+// The nodes of the leaves `q`, `q + 1`, `q + 2` and `q + 3`.
+fn leaves_at<const H: u32, const W: u32, const P: usize, const LS: u32>(
     tree: Tree<H>,
     set: Ots<W, P, LS>,
     key: &KeyPart,
     q: usize,
-) -> [u8; 32]
-    requires { q < 2 ^ H }
-    ensures { result ≡ node (ots_key (record { w = W; p = P; ls = LS }) key.now.seed key.now.id) key.now.id H (2 ^ H + q) }
+) -> [[u8; 32]; 4]
+    requires { q + 4 ≤ 2 ^ H }
+    ensures { (k : ℕ) → k < 4
+        → slice_index_or result k [] ≡ node (ots_key (record { w = W; p = P; ls = LS }) key.now.seed key.now.id) key.now.id H (2 ^ H + q + k) }
 {
-    let hash = public_hash_in(set, key, q as u32);
-    leaf_hash(&key.id, (tree.leaves() + q) as u32, &hash)
+    let hashes = public_hashes_in(set, key, q as u32);
+    let r = (tree.leaves() + q) as u32;
+    [
+        leaf_hash(&key.id, r, &hashes[0]),
+        leaf_hash(&key.id, r + 1, &hashes[1]),
+        leaf_hash(&key.id, r + 2, &hashes[2]),
+        leaf_hash(&key.id, r + 3, &hashes[3]),
+    ]
 }
 
-// Writes the leaves.
+// Writes four nodes from node `r` on.
+fn write_four(nodes: &mut [[u8; 32]], r: usize, four: &[[u8; 32]; 4])
+    requires { r + 4 ≤ length nodes.old }
+    ensures { (keys : ℕ → List ℕ) (id : List ℕ) (h first : ℕ) → AreNodes keys id h first r nodes.old
+        → ((k : ℕ) → k < 4 → slice_index_or four.now k [] ≡ node keys id h (r + k)) → AreNodes keys id h first (r + 4) nodes.new }
+{
+    nodes[r] = four[0];
+    nodes[r + 1] = four[1];
+    nodes[r + 2] = four[2];
+    nodes[r + 3] = four[3];
+}
+
+// Writes the leaves, four at a time.
 fn write_leaves<const H: u32, const W: u32, const P: usize, const LS: u32>(
     tree: Tree<H>,
     set: Ots<W, P, LS>,
@@ -34,8 +53,9 @@ fn write_leaves<const H: u32, const W: u32, const P: usize, const LS: u32>(
     requires { length nodes.old ≡ 2 * 2 ^ H }
     ensures { AreNodes (ots_key (record { w = W; p = P; ls = LS }) key.now.seed key.now.id) key.now.id H (2 ^ H) (2 * 2 ^ H) nodes.new }
 {
-    for q in 0..tree.leaves() {
-        nodes[tree.leaves() + q] = leaf_at(tree, set, key, q);
+    for g in 0..tree.leaves() / 4 {
+        let four = leaves_at(tree, set, key, 4 * g);
+        write_four(nodes, tree.leaves() + 4 * g, &four);
     }
 }
 

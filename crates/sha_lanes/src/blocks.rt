@@ -15,7 +15,7 @@ pub fn one_block()
 
 // The initial hash value in each lane (FIPS 180-4, 5.3.3).
 #[inline(always)]
-fn initial_hash() -> [u32x4; 8]
+pub(crate) fn initial_hash() -> [u32x4; 8]
     ensures { (i : ℕ) → i < 4 → lane i result ≡ initial_hash_256 }
 {
     let [a, b, c, d, e, f, g, h] = INITIAL_HASH;
@@ -76,7 +76,7 @@ fn words_at(blocks: &[[u8; 64]; 4], t: usize) -> u32x4
 }
 
 // The words of four blocks.
-fn block_words(blocks: &[[u8; 64]; 4]) -> [u32x4; 16]
+pub(crate) fn block_words(blocks: &[[u8; 64]; 4]) -> [u32x4; 16]
     ensures { (i : ℕ) → i < 4 → lane i result ≡ first_words (slice_index_or blocks.now i []) 16 }
 {
     let mut words = [u32x4::splat(0); 16];

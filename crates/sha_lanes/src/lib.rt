@@ -6,11 +6,13 @@
 
 pub use blocks::{digest_blocks, hash4, one_block, value_octets, value_words};
 pub use compress::compress4;
-pub use parts::{choose, digest_parts, front_words};
+pub use long::hash_padded4;
+pub use parts::{choose, digest_parts, first_rounds, front_words};
 
 mod blocks;
 mod compress;
 mod constants;
+mod long;
 mod parts;
 mod rounds;
 #[cfg(test)]

@@ -4,9 +4,12 @@ ghost use Rattle.std.specs.Prelude.{◌≡◌, ℕ, ◌+◌, ◌-◌, ◌*◌, �
 ghost use Rattle.std.specs.Int.{w32, from_be_bytes, to_be_bytes};
 ghost use Rattle.sha2.specs.Sha256.{sha256, digest_bytes, first_words, word_at};
 ghost use Rattle.sha_lanes.specs.Blocks.{IsBlockOf, IsFrontOf};
+ghost use Rattle.sha_lanes.specs.Fronts.{HasFront};
 ghost use Rattle.sha_lanes.specs.Lanes.{lane};
 
-use crate::blocks::{digest_blocks, word};
+use crate::blocks::{initial_hash, word};
+use crate::compress::compress_rest;
+use crate::rounds::first_five_steps;
 use crate::words::{add, shift, shift_left};
 use std::simd::u32x4;
 
@@ -67,13 +70,19 @@ fn part_words(front: &[u32x4; 6], place: u8, value: &[u32x4; 8]) -> [u32x4; 16]
     ]
 }
 
-/// The digests of four messages of 55 octets. Each begins with 22 octets, given by their words (`front_words`), has then the
-/// octet `place`, and ends with 32 octets, given by their 8 words. A digest is given by its 8 words.
-pub fn digest_parts(front: &[u32x4; 6], place: u8, value: &[u32x4; 8]) -> [u32x4; 8]
-    ensures { (i : ℕ) (p : List ℕ) → i < 4 → IsFrontOf p (lane i front.now)
+/// The digests of four messages of 55 octets. Each begins with 22 octets, given by their words (`front_words`) and by
+/// what the first five rounds make of them (`first_rounds`), has then the octet `place`, and ends with 32 octets, given by
+/// their 8 words. A digest is given by its 8 words.
+pub fn digest_parts(
+    front: &[u32x4; 6],
+    started: &[u32x4; 8],
+    place: u8,
+    value: &[u32x4; 8],
+) -> [u32x4; 8]
+    ensures { (i : ℕ) (p : List ℕ) → i < 4 → HasFront i p front.now started.now
         → digest_bytes (lane i result) 8 ≡ sha256 (p ++ place ∷ digest_bytes (lane i value.now) 8) }
 {
-    digest_blocks(&part_words(front, place, value))
+    compress_rest(initial_hash(), *started, &part_words(front, place, value))
 }
 
 // Word `t` of four fronts.
@@ -117,6 +126,13 @@ pub fn front_words(fronts: &[[u8; 22]; 4]) -> [u32x4; 6]
         front_word(&filled, 4),
         front_word(&filled, 5),
     ]
+}
+
+/// The working variables after the first five rounds, whose words are those of a front.
+pub fn first_rounds(front: &[u32x4; 6]) -> [u32x4; 8]
+    ensures { (i : ℕ) (p : List ℕ) → i < 4 → IsFrontOf p (lane i front.now) → HasFront i p front.now result }
+{
+    first_five_steps(front, initial_hash())
 }
 
 // A word of ones, or of zeros.

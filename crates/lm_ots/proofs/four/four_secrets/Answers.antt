@@ -9,5 +9,5 @@ pub returns : goal.returns
 unfolding step
 returns c k low =
     let front = prefix c.args.id.now c.args.q (slice_index c.args.picks.now k) in
-    c.value_octets.ensures k low ∙ c.digest_parts.ensures k front low (c.fronts-front.ensures k low)
+    c.value_octets.ensures k low ∙ c.digest_parts.ensures k front low (c.first_rounds-started.ensures k front low (c.fronts-front.ensures k low))
     ∙ ap (λ (x : List ℕ). sha256 (front ++ 255 ∷ x)) (c.value_words.ensures k low ∙ four_same c.args.seed.now k low)
