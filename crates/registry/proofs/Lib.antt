@@ -1,0 +1,6 @@
+pub mod FileLemmas
+pub mod ViewLemmas
+pub mod HexLemmas
+pub mod TableLemmas
+pub mod ListLemmas
+pub mod FoundLemmas

@@ -1,0 +1,5 @@
+pub mod Words
+pub mod Forms
+pub mod Files
+pub mod Settings
+pub mod Credentials
