@@ -27,20 +27,20 @@ use Rattle.deal_model.specs.declared.asking.Job.{Job}
 use Rattle.deal_model.specs.declared.asking.Job.TheVariants.{Repeat, Enrol, Confirm, Poll, Withdraw}
 use Rattle.deal_model.specs.declared.asking.Checked.{Checked}
 use Rattle.deal_model.specs.declared.states.Owner.{Owner}
-use Rattle.deal_model.specs.declared.states.Standing.{Standing}
-use Rattle.deal_model.specs.declared.states.Standing.TheVariants.{Unknown, OtherKind, Barred, Good}
+use Rattle.deal_model.specs.declared.states.Standing.TheVariants.{Good}
 use Rattle.deal_model.specs.Keys.{key_id, key_of, leaves_of}
-use Rattle.deal_model.specs.Views.{History, same_kind, time_of, settings_of, is_found, is_empty, is_grant_for, is_hold_for, is_grant_of, has_digest, is_confirmed, is_key_taken, certificate_state, open_or_closed, after_grant, transaction_state, is_told, leaves_used, reply_leaves, leaves_in, owner_of, is_barred, standing_with, standing_of, standing_of_who}
+use Rattle.deal_model.specs.Views.{History, same_kind, time_of, settings_of, is_found, is_empty, is_grant_for, is_hold_for, is_grant_of, has_digest, is_confirmed, is_key_taken, certificate_state, open_or_closed, after_grant, transaction_state, is_told, leaves_used, reply_leaves, leaves_in, standing_of_who}
 use Rattle.deal_model.specs.Rules.{Legal, Allowed, AllowedFrom, Holds, same_who, same_body, same_bool, same_wish, rights_as, is_held_by, is_held_as, is_granted_to, reply_leaf, StampHolds, IsOpenPast, size_of, log_size}
 use Rattle.deal_model.proofs.Histories.{allowed_at}
 use Rattle.deal_model.proofs.Leaves.{same_refl, found_passes}
-use Rattle.deal_table.specs.History.{Receipted, Deal, deal_in, deal_of, name_of, place_of_digest, event_time, owner_for, standing_for, is_full, grant_receipt}
+use Rattle.deal_table.specs.History.{Receipted, Deal, deal_in, deal_of, name_of, place_of_digest, event_time, is_full, grant_receipt}
 use Rattle.deal_table.specs.Message.{Enrolment, Confirmation, Polling, Withdrawal, Body, Enrols, Confirms, Polls, Withdraws, Nests, OtherBody, Facts, FitsBody, FitsMessage, Letter, subject_of, is_version}
 use Rattle.deal_table.specs.Table.{Row, To, Decision, Makes, Refuses, Asks, Event, Sent, unless, pass, guarded, standing_now, may_enrol, is_on_hold, tid_of, is_unused, header_rows, new_rows, old_rows, is_of, party_rows, state_now, deal_now, stamp_by, grant_by, is_past_key, room_rows, made, wish_rows, key_rows, is_possessed, proof_rows, enrolled, enrols, granted_serial, deal_certificate, is_lost, confirm_rows, status_rows, compared, compared_with, settles, confirms, can_poll, poll_rows, entry_rows, polled, poll_made, polls, reason_rows, is_open, is_revoked, may_withdraw, revoke_rows, withdraws, about, decision}
 use Rattle.deal_table.specs.Carry.{rest_body, rest_facts, rest_message, rest, left, FitsJob, FitsChecked}
 use Rattle.deal_table.proofs.Split.{rest_plain}
 use Rattle.deal_table.proofs.Rows.{false_true, second_passes}
 use Rattle.deal_table.proofs.Made.{unless_makes, decision_makes}
+use Rattle.deal_table.proofs.Owners.{owner_good}
 use Rattle.deal_table.proofs.Senders.{found_place, grant_is, view_found, sender_stands}
 use Rattle.deal_table.proofs.Forms.{sender_form, few_leaves, leaf_form}
 
@@ -83,27 +83,6 @@ same_kind_refl Lms = refl
 same_who_refl : (w : Who) → same_who w w ≡ true
 same_who_refl (Listed k id) = rw (same_kind_refl k, same_refl id) refl
 same_who_refl (Cert serial) = eq-eqb serial serial refl
-
-good_in : Standing → Option Owner
-good_in (Good who key rights) = Some (record { who = who; key = key; rights = rights })
-good_in Unknown = None
-good_in OtherKind = None
-good_in Barred = None
-
--- a good sender is its credential's owner, and isn't barred
-given_good : (h : History) (t : ℕ) (found : Option Owner) (stranger : Bool) (u : Owner) → standing_with h t found stranger ≡ Good u.who u.key u.rights → (found ≡ Some u) × (is_barred h t u.who ≡ false)
-unfolding good_in
-given_good h t None true u g = absurd (let e : OtherKind ≡ Good u.who u.key u.rights = g in cc)
-given_good h t None false u g = absurd (let e : Unknown ≡ Good u.who u.key u.rights = g in cc)
-given_good h t (Some p) stranger u g = elim (is_barred h t p.who) as (λ b. is_barred h t p.who ≡ b → cond b Barred (Good p.who p.key p.rights) ≡ Good u.who u.key u.rights → (Some p ≡ Some u) × (is_barred h t u.who ≡ false)) [
-  | true ↦ λ is k. absurd (let e : Barred ≡ Good u.who u.key u.rights = k in cc)
-  | false ↦ λ is k. let same : p ≡ u = same_Some p u (ap good_in k) in (ap (λ (x : Owner). Some x) same, ap (λ (x : Owner). is_barred h t x.who) (sym same) ∙ is)
-] refl g
-
-owner_good : (h : History) (t : ℕ) (kind : Option Kind) (kid : List ℕ) (u : Owner) → standing_for h kind kid t ≡ Good u.who u.key u.rights → (owner_for h kind kid ≡ Some u) × (is_barred h t u.who ≡ false)
-unfolding standing_of
-owner_good h t (Some kind) kid u g = given_good h t (owner_of h kind kid) _ u g
-owner_good h t None kid u g = absurd (let e : Unknown ≡ Good u.who u.key u.rights = g in cc)
 
 -- the sender's rights are the owner's
 rights_are : (h : History) (t : ℕ) (m : Facts) (u : Owner) → Legal h → standing_now h t m ≡ Good u.who u.key u.rights → rights_as u.who (standing_of_who h u.who t) ≡ Some u.rights

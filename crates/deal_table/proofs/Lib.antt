@@ -1,5 +1,6 @@
 pub mod Stays
 pub mod Rows
+pub mod Owners
 pub mod Trust
 pub mod Jobs
 pub mod Split
@@ -12,4 +13,5 @@ pub mod Senders
 pub mod Forms
 pub mod Allowed
 pub mod Deals
+pub mod Looked
 pub mod Examples

@@ -13,12 +13,13 @@ use Rattle.deal_model.specs.declared.states.DealState.{DealState}
 use Rattle.deal_model.specs.declared.states.Owner.{Owner}
 use Rattle.deal_model.specs.declared.states.Standing.{Standing}
 use Rattle.deal_model.specs.declared.states.Standing.TheVariants.{Unknown, OtherKind, Barred, Good}
-use Rattle.deal_model.specs.Views.{History, is_told, time_of, owner_of, is_barred, standing_with, standing_of}
+use Rattle.deal_model.specs.Views.{History, is_told, time_of}
 use Rattle.deal_table.specs.declared.fail.FailInfo.{FailInfo}
 use Rattle.deal_table.specs.History.{Receipted, Deal, Begins, name_of, skew_of, place_of_digest, event_time, grant_receipt, owner_for, standing_for}
 use Rattle.deal_table.specs.Message.{Confirmation, Body, Enrols, Confirms, Polls, Withdraws, Nests, OtherBody, is_nested, Header, Facts, Letter, subject_of}
 use Rattle.deal_table.specs.Table.{Row, To, Decision, Makes, Repeats, Refuses, Asks, Event, Sent, unless, bare, guard_by, guarded, known, protection_rows, check_rows, time_rows, standing_now, trusted, old_rows, new_rows, party_rows, confirm_rows, poll_rows, entry_rows, reason_rows, revoke_rows, wish_rows, key_rows, proof_rows, is_possessed, enrolled, polled, poll_made, deal_certificate, state_now, deal_now, tid_of, status_rows, compared, compared_with, settles, stamp_by, room_rows, made, about, repeated, passed, served_rows, form_rows, header_rows, wrap_rows, read, opened, decision}
 use Rattle.deal_table.specs.Carry.{header_by, rest_body, rest_facts, rest_outer, rest_message, rest, left, untold, IsChecked, IsForJob, IsInside, Carries, is_confirm_job, IsStale, secret_by, carried_to}
+use Rattle.deal_table.proofs.Owners.{owner_good}
 use Rattle.deal_table.proofs.Split.{opened_plain, outer_protected, rest_plain}
 use Rattle.deal_table.proofs.Later.{carries_later, carries_told}
 
@@ -115,24 +116,9 @@ module _ (R : To → Type 0) (A : ℕ → Type 0) where
 
 -- ---- senders that are good
 
-good_in : Standing → Option Owner
-good_in (Good who key rights) = Some (record { who = who; key = key; rights = rights })
-good_in Unknown = None
-good_in OtherKind = None
-good_in Barred = None
-
 -- a sender that is good is the credential's owner
 pub good_owner : (h : History) (t : ℕ) (kind : Option Kind) (kid : List ℕ) (o u : Owner) → owner_for h kind kid ≡ Some o → standing_for h kind kid t ≡ Good u.who u.key u.rights → u ≡ o
-unfolding standing_of good_in
-good_owner h t None kid o u e g = absurd (none-some o e)
-good_owner h t (Some kind) kid o u e g = with_owner (owner_of h kind kid) _ e g
-  where
-    with_owner : (found : Option Owner) (stranger : Bool) → found ≡ Some o → standing_with h t found stranger ≡ Good u.who u.key u.rights → u ≡ o
-    with_owner None stranger f s = absurd (none-some o f)
-    with_owner (Some p) stranger f s = elim (is_barred h t p.who) as (λ b. cond b Barred (Good p.who p.key p.rights) ≡ Good u.who u.key u.rights → u ≡ o) [
-      | true ↦ λ k. absurd (let differ : Barred ≡ Good u.who u.key u.rights = k in cc)
-      | false ↦ λ k. sym (same_Some p u (ap good_in k)) ∙ same_Some p o f
-    ] s
+good_owner h t kind kid o u e g = same_Some u o (sym (owner_good h t kind kid u g).0 ∙ e)
 
 -- ---- a refusal answers nobody's secret, or the one that was carried
 

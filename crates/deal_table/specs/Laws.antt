@@ -8,9 +8,12 @@ use Rattle.deal_changes.specs.Times.{time_of_change, tid_of}
 use Rattle.deal_model.specs.declared.states.Owner.{Owner}
 use Rattle.deal_model.specs.Views.{History, same, founding, transaction_state}
 use Rattle.deal_model.specs.Rules.{Allowed, Legal}
+use Rattle.deal_model.specs.declared.asking.Ask.{Ask}
 use Rattle.deal_model.specs.declared.asking.Checked.{Checked}
+use Rattle.deal_model.specs.declared.states.Standing.TheVariants.{Good}
+use Rattle.deal_table.specs.Looked.{IsAskOf, IsRefusedByLook}
 use Rattle.deal_table.specs.declared.fail.FailInfo.{FailInfo}
-use Rattle.deal_table.specs.History.{Receipted, Begins, deal_of, place_of, owner_for, event_time, receipt_at, grant_receipt}
+use Rattle.deal_table.specs.History.{Receipted, Begins, name_of, look_of, deal_of, place_of, owner_for, event_time, receipt_at, grant_receipt}
 use Rattle.deal_table.specs.Message.{FitsMessage, Letter, subject_of, blind}
 use Rattle.deal_table.specs.Table.{To, is_unused, is_deal, Makes, Refuses, Asks, decision}
 use Rattle.deal_table.specs.Served.{decision_so_far, IsServedSoFar}
@@ -63,6 +66,20 @@ AsksOfTheStale = (h : History) (c : Checked) (now : ℕ) (w : List ℕ) (place :
 -- of the clock's reading only the event's time is asked
 abbrev pub DecidesByTheTime : Type 0
 DecidesByTheTime = (h : History) (l : Letter) (now : ℕ) (w : List ℕ) → decision h l (event_time h now) w ≡ decision h l now w
+
+-- ---- what a look tells
+
+-- what a look refuses is refused at the history that it looked at, with the same reason, to the same header, under the same
+-- secret
+abbrev pub LookRefuses : Type 0
+LookRefuses = (h : History) (l : Letter) (ask : Ask) (now : ℕ) (w : List ℕ) (fail : FailInfo) (to : To) → IsAskOf l ask → IsRefusedByLook (look_of h ask now) (name_of h) l fail to → decision h l now w ≡ Refuses fail to
+
+-- a sender that is good at a look is the owner of its credential, who stays so
+abbrev pub LookTellsTheOwner : Type 0
+LookTellsTheOwner = (h : History) (ask : Ask) (now : ℕ) (o : Owner) → (look_of h ask now).cred ≡ Good o.who o.key o.rights → owner_for h ask.kind ask.kid ≡ Some o
+
+abbrev pub LookTellsTheOuterOwner : Type 0
+LookTellsTheOuterOwner = (h : History) (ask : Ask) (now : ℕ) (outer : Kind × List ℕ) (o : Owner) → ask.outer ≡ Some outer → (look_of h ask now).outer ≡ Good o.who o.key o.rights → owner_for h (Some outer.0) outer.1 ≡ Some o
 
 -- ---- what the table makes
 

@@ -1,6 +1,7 @@
 pub mod History
 pub mod Message
 pub mod Table
+pub mod Looked
 pub mod Served
 pub mod Carry
 pub mod Laws

@@ -171,10 +171,13 @@ abbrev pub guarded : Bool → Facts → Owner → To
 guarded outer m o = record { outer = outer; guard = guard_by m.header.kind m.header.kid o }
 
 -- protection, sender and time of a message, the outer one or the one that is about something
+abbrev pub trusted_by : Standing → ℕ → ℕ → Bool → Facts → (Owner → Decision) → Decision
+trusted_by standing skew t outer m next = unless (bare outer) (protection_rows m)
+    (known (bare outer) standing (λ o. unless (bare outer) (check_rows m o)
+    (unless (guarded outer m o) (time_rows m skew t) (next o))))
+
 abbrev pub trusted : History → ℕ → Bool → Facts → (Owner → Decision) → Decision
-trusted h t outer m next = unless (bare outer) (protection_rows m)
-    (known (bare outer) (standing_now h t m) (λ o. unless (bare outer) (check_rows m o)
-    (unless (guarded outer m o) (time_rows m (skew_of h) t) (next o))))
+trusted h t outer m next = trusted_by (standing_now h t m) (skew_of h) t outer m next
 
 -- ---- transactions
 

@@ -1,5 +1,5 @@
 //! Laws of the table, each the contract of a function that does nothing.
-ghost use Rattle.deal_table.specs.Laws.{SettingsStay, OwnersStay, FirstsStay, PlacesStay, ReceiptsStay, GrantReceiptsStay, IsDecidedByTheRest, DecidesOrAsks, RefusesToTheCarried, AsksOfTheStale, DecidesByTheTime, MakesTheAllowed, LeftMakesTheAllowed, UnusedHasNoChange, DealHasGrantOrHold, NobodyIsUnnamed, ServedIsWhole};
+ghost use Rattle.deal_table.specs.Laws.{SettingsStay, OwnersStay, FirstsStay, PlacesStay, ReceiptsStay, GrantReceiptsStay, IsDecidedByTheRest, DecidesOrAsks, RefusesToTheCarried, AsksOfTheStale, DecidesByTheTime, LookRefuses, LookTellsTheOwner, LookTellsTheOuterOwner, MakesTheAllowed, LeftMakesTheAllowed, UnusedHasNoChange, DealHasGrantOrHold, NobodyIsUnnamed, ServedIsWhole};
 
 /// What a history has settled stands in each later one: what the service was founded with; to whom a credential belongs; the
 /// first change of any sort, and its place; what the reply to a change needs.
@@ -21,6 +21,14 @@ pub fn what_is_left_decides()
     ensures sends { RefusesToTheCarried }
     ensures asks { AsksOfTheStale }
     ensures time { DecidesByTheTime }
+{}
+
+/// What a look tells: a message that its rows refuse is refused at the history that it looked at, with the same reason, to the
+/// same header, under the same secret; and a sender that is good is the owner of its credential.
+pub fn what_a_look_tells()
+    ensures refuses { LookRefuses }
+    ensures owner { LookTellsTheOwner }
+    ensures outer { LookTellsTheOuterOwner }
 {}
 
 /// What the table makes may come next in the history, at the event's time: it has a spelling, there is room for it, and the

@@ -11,7 +11,7 @@ mod look;
 
 pub use fail::FailInfo;
 pub use laws::{
-    what_is_left_decides, what_is_made_is_allowed, what_is_served_is_whole, what_is_settled_stays,
-    what_legal_histories_say,
+    what_a_look_tells, what_is_left_decides, what_is_made_is_allowed, what_is_served_is_whole,
+    what_is_settled_stays, what_legal_histories_say,
 };
 pub use look::Look;
