@@ -1,6 +1,6 @@
 -- In a legal history a credential's owner stands as the credential does.
-use Rattle.std.proofs.Common.{◌≡◌, ℕ, suc, Bool, true, false, ◌&&◌, cond, List, [], ◌∷◌, Option, Some, None, refl, sym, ap, ◌∙◌}
-use Rattle.std.specs.Prelude.{option_map, option_and_then, find, slice_get, if◌then◌else◌}
+use Rattle.std.proofs.Common.{◌≡◌, ℕ, suc, Bool, true, false, ◌&&◌, cond, List, [], ◌∷◌, ◌++◌, Option, Some, None, refl, sym, ap, ◌∙◌}
+use Rattle.std.specs.Prelude.{unwrap_or, option_map, option_and_then, find, slice_get, if◌then◌else◌}
 use Rattle.std.proofs.lemmas.Bool.{eqb-true, eq-eqb}
 use Rattle.std.proofs.lemmas.Option.{none-some, same_Some}
 use Rattle.std.proofs.lemmas.Slice.Eq.{bytes_eq-Decides}
@@ -20,8 +20,9 @@ use Rattle.deal_model.specs.Keys.{key_id, key_of, is_lms_key}
 use Rattle.deal_model.specs.Views.{History, same, same_kind, is_entry, is_grant_of, owner_of_credential, granted_owner, owner_in, has_owner, owner_of, is_barred, standing_of, standing_of_grant, standing_of_who}
 use Rattle.deal_model.specs.Rules.{Legal}
 use Rattle.deal_model.proofs.Leaves.{serials, none_passes, found_passes}
-use Rattle.deal_table.specs.History.{owner_for}
+use Rattle.deal_table.specs.History.{material_of, granted_key, secret_of, owner_for}
 use Rattle.deal_table.proofs.Rows.{false_true}
+use Rattle.deal_table.proofs.Stays.{owner_stays, first_stays}
 
 -- ---- what is found
 
@@ -149,3 +150,48 @@ sender_stands h t (Some kind) kid o legal e free =
     let given = view_found (owner_in kind kid) (find (has_owner kind kid) h) o e in
     let place = found_place (has_owner kind kid) h given.0 given.1 in
     owner_stands h t kind kid o given.0 place.0 legal place.1 e given.2 free
+
+-- ---- a sender's secret
+
+listed_secret : (h more : History) (kind : Kind) (kid : List ℕ) (o : Owner) (list : List Credential) → owner_of h kind kid ≡ Some o → option_map owner_of_credential (find (is_entry kind kid) list) ≡ Some o → secret_of (h ++ more) o.who ≡ o.key
+listed_secret h more kind kid o list e given =
+    let credential = map_found owner_of_credential (find (is_entry kind kid) list) o given in
+    let c : Credential = credential.0 in
+    let entry = both (same_kind c.kind kind) (same c.kid kid) (found_is (is_entry kind kid) list c credential.1) in
+    let who : Listed c.kind c.kid ≡ o.who = ap (λ (x : Owner). x.who) credential.2 in
+    ap (λ (x : Who). secret_of (h ++ more) x) (sym who)
+    ∙ ap (λ (k : Kind). material_of (owner_of (h ++ more) k c.kid)) (kind_is c.kind kind entry.0)
+    ∙ ap (λ (k : List ℕ). material_of (owner_of (h ++ more) kind k)) (same_is c.kid kid entry.1)
+    ∙ ap material_of (owner_stays h more (Some kind) kid o e)
+
+granted_secret : (h more : History) (kid : List ℕ) (o : Owner) (i : ℕ) (s : Stamp) (b : Body4) (w : Wish) (serial leaf : ℕ) → Legal h → slice_get h i ≡ Some (Grant s b w serial leaf) → granted_owner kid w.spki serial ≡ Some o → secret_of (h ++ more) o.who ≡ o.key
+granted_secret h more kid o i s b w serial leaf legal stands given =
+    let grant = some_if (is_lms_key w.spki && same (key_id (key_of w.spki)) kid) (record { who = Cert serial; key = key_of w.spki; rights = 1 }) o given in
+    let who : Cert serial ≡ o.who = ap (λ (x : Owner). x.who) grant.1 in
+    ap (λ (x : Who). secret_of (h ++ more) x) (sym who)
+    ∙ ap (λ (x : Option Change). unwrap_or (option_map granted_key x) []) (first_stays (is_grant_of serial) h more (Grant s b w serial leaf) (grant_found h i s b w serial leaf legal stands))
+    ∙ ap (λ (x : Owner). x.key) grant.1
+
+owner_secret : (h more : History) (kind : Kind) (kid : List ℕ) (o : Owner) (c : Change) (i : ℕ) → Legal h → slice_get h i ≡ Some c → owner_of h kind kid ≡ Some o → owner_in kind kid c ≡ Some o → secret_of (h ++ more) o.who ≡ o.key
+owner_secret h more kind kid o (Enlist time list) i legal stands e given = listed_secret h more kind kid o list e given
+owner_secret h more Lms kid o (Grant s b w serial leaf) i legal stands e given = granted_secret h more kid o i s b w serial leaf legal stands given
+owner_secret h more Mac kid o (Grant s b w serial leaf) i legal stands e given = absurd (none-some o given)
+owner_secret h more kind kid o (Found s) i legal stands e given = absurd (none-some o given)
+owner_secret h more kind kid o (Dismiss time w) i legal stands e given = absurd (none-some o given)
+owner_secret h more kind kid o (Hold s b w) i legal stands e given = absurd (none-some o given)
+owner_secret h more kind kid o (Release time id) i legal stands e given = absurd (none-some o given)
+owner_secret h more kind kid o (Deny time id) i legal stands e given = absurd (none-some o given)
+owner_secret h more kind kid o (Turned s) i legal stands e given = absurd (none-some o given)
+owner_secret h more kind kid o (Polled s) i legal stands e given = absurd (none-some o given)
+owner_secret h more kind kid o (Settled s accepted) i legal stands e given = absurd (none-some o given)
+owner_secret h more kind kid o (Revoke s n reason) i legal stands e given = absurd (none-some o given)
+owner_secret h more kind kid o (Lapse time id) i legal stands e given = absurd (none-some o given)
+
+-- the secret of a sender is its credential's, in each later history too
+pub secret_is : (h more : History) (kind : Option Kind) (kid : List ℕ) (o : Owner) → Legal h → owner_for h kind kid ≡ Some o → secret_of (h ++ more) o.who ≡ o.key
+unfolding owner_of
+secret_is h more None kid o legal e = absurd (none-some o e)
+secret_is h more (Some kind) kid o legal e =
+    let given = view_found (owner_in kind kid) (find (has_owner kind kid) h) o e in
+    let place = found_place (has_owner kind kid) h given.0 given.1 in
+    owner_secret h more kind kid o given.0 place.0 legal place.1 e given.2

@@ -16,7 +16,7 @@ use Rattle.deal_model.specs.declared.states.Standing.TheVariants.{Unknown, Other
 use Rattle.deal_model.specs.Views.{History, is_told, time_of}
 use Rattle.deal_table.specs.declared.fail.FailInfo.{FailInfo}
 use Rattle.deal_table.specs.History.{Receipted, Deal, Begins, name_of, skew_of, place_of_digest, event_time, grant_receipt, owner_for, standing_for}
-use Rattle.deal_table.specs.Message.{Confirmation, Body, Enrols, Confirms, Polls, Withdraws, Nests, OtherBody, is_nested, Header, Facts, Letter, subject_of}
+use Rattle.deal_table.specs.Message.{Compares, Confirmation, Body, Enrols, Confirms, Polls, Withdraws, Nests, OtherBody, is_nested, Header, Facts, Letter, subject_of}
 use Rattle.deal_table.specs.Table.{Row, To, Decision, Makes, Repeats, Refuses, Asks, Event, Sent, unless, bare, guard_by, guarded, known, protection_rows, check_rows, time_rows, standing_now, trusted, old_rows, new_rows, party_rows, confirm_rows, poll_rows, entry_rows, reason_rows, revoke_rows, wish_rows, key_rows, proof_rows, is_possessed, enrolled, polled, poll_made, deal_certificate, state_now, deal_now, tid_of, status_rows, compared, compared_with, settles, stamp_by, room_rows, made, about, repeated, passed, served_rows, form_rows, header_rows, wrap_rows, read, opened, decision}
 use Rattle.deal_table.specs.Carry.{header_by, rest_body, rest_facts, rest_outer, rest_message, rest, left, untold, IsChecked, IsForJob, IsInside, Carries, is_confirm_job, IsStale, secret_by, carried_to}
 use Rattle.deal_table.proofs.Owners.{owner_good}
@@ -194,6 +194,30 @@ left_asks h c now w place e =
     let found = asked_at (λ n. (c.hash_ok ≡ None) × (is_confirm_job c.job ≡ true) × (r : Receipted) × (grant_receipt h c.ask.tid ≡ Some r) × (r.place ≡ n)) (left h c now w) place
     (left_goes (λ to. Unit {0}) (λ n. (c.hash_ok ≡ None) × (is_confirm_job c.job ≡ true) × (r : Receipted) × (grant_receipt h c.ask.tid ≡ Some r) × (r.place ≡ n)) h c now w tt tt (any_guard h (event_time h now) c c.ask.outer) (λ new u g. tt) (stale_asks h c c.job)) e in
     record { untold = found.0; confirms = found.1; receipt = found.2; stands = found.3; there = found.4 }
+
+-- ---- a message whose certHash is compared never asks
+
+compares_never : (h : History) (tid : List ℕ) (body : Body) → Compares body → MayAsk (λ n. ⊥) h tid body
+compares_never h tid (Enrols e) k = tt
+compares_never h tid (Confirms f) k = λ r e none. absurd (let differ : false ≡ true = ap (λ (x : Option Bool). is_some x) (sym none) ∙ k r in cc)
+compares_never h tid (Polls p) k = tt
+compares_never h tid (Withdraws w) k = tt
+compares_never h tid (Nests count) k = tt
+compares_never h tid OtherBody k = tt
+
+compares_goes : (h : History) (l : Letter) (now : ℕ) (w : List ℕ) → Compares (subject_of l).body → Goes (λ to. Unit {0}) (λ n. ⊥) (decision h l now w)
+compares_goes h l now w k = read_goes (λ to. Unit {0}) (λ n. ⊥) (bare false) (bare (is_nested l.message.body)) l.message _ tt tt
+    (elim (is_nested l.message.body) as (λ b. Compares (cond b l.inner l.message).body → Goes (λ to. Unit {0}) (λ n. ⊥) (cond b (trusted h (event_time h now) true l.message inside) (passed (record { history = h; time = event_time h now; words = w }) l.message))) [
+      | true ↦ λ q. trusted_goes (λ to. Unit {0}) (λ n. ⊥) h (event_time h now) true l.message inside tt (λ o e. tt) (λ o e. unless_goes (λ to. Unit {0}) (λ n. ⊥) (guarded true l.message o) (wrap_rows l.message o) _ tt
+          (read_goes (λ to. Unit {0}) (λ n. ⊥) (guarded true l.message o) (bare false) l.inner _ tt tt (passed_goes (λ to. Unit {0}) (λ n. ⊥) (record { history = h; time = event_time h now; words = w }) l.inner tt (λ new u g. tt) (compares_never h (tid_of l.inner.header) l.inner.body q))))
+      | false ↦ λ q. passed_goes (λ to. Unit {0}) (λ n. ⊥) (record { history = h; time = event_time h now; words = w }) l.message tt (λ new u g. tt) (compares_never h (tid_of l.message.header) l.message.body q)
+    ] k)
+  where
+    inside : Owner → Decision
+    inside o = unless (guarded true l.message o) (wrap_rows l.message o) (read (guarded true l.message o) (bare false) l.inner (passed (record { history = h; time = event_time h now; words = w }) l.inner))
+
+pub never_asks : (h : History) (l : Letter) (now : ℕ) (w : List ℕ) (place : ℕ) → Compares (subject_of l).body → decision h l now w ≡ Asks place → ⊥
+never_asks h l now w place k e = asked_at (λ n. ⊥) (decision h l now w) place (compares_goes h l now w k) e
 
 -- ---- the clock's reading is asked only through the event's time
 

@@ -13,8 +13,8 @@ use Rattle.deal_model.specs.declared.asking.Checked.{Checked}
 use Rattle.deal_model.specs.declared.states.Standing.TheVariants.{Good}
 use Rattle.deal_table.specs.Looked.{IsAskOf, IsRefusedByLook}
 use Rattle.deal_table.specs.declared.fail.FailInfo.{FailInfo}
-use Rattle.deal_table.specs.History.{Receipted, Begins, name_of, look_of, deal_of, place_of, owner_for, event_time, receipt_at, grant_receipt}
-use Rattle.deal_table.specs.Message.{FitsMessage, Letter, subject_of, blind}
+use Rattle.deal_table.specs.History.{Receipted, secret_of, Begins, name_of, look_of, deal_of, place_of, owner_for, event_time, receipt_at, grant_receipt}
+use Rattle.deal_table.specs.Message.{Compares, FitsMessage, Letter, subject_of, blind}
 use Rattle.deal_table.specs.Table.{To, is_unused, is_deal, Makes, Refuses, Asks, decision}
 use Rattle.deal_table.specs.Served.{decision_so_far, IsServedSoFar}
 use Rattle.deal_table.specs.Carry.{left, FitsChecked, Carries, untold, HashIsTold, as_told, IsStale, carried_to}
@@ -62,6 +62,10 @@ RefusesToTheCarried = (l : Letter) (c : Checked) (looked h : History) (now : ℕ
 -- what is left asks only of a certConf whose certHash nobody has compared, and at the place of the transaction's Grant
 abbrev pub AsksOfTheStale : Type 0
 AsksOfTheStale = (h : History) (c : Checked) (now : ℕ) (w : List ℕ) (place : ℕ) → left h c now w ≡ Asks place → IsStale h c place
+
+-- a message whose certHash is compared never asks
+abbrev pub ComparedNeverAsks : Type 0
+ComparedNeverAsks = (h : History) (l : Letter) (now : ℕ) (w : List ℕ) (place : ℕ) → Compares (subject_of l).body → decision h l now w ≡ Asks place → ⊥
 
 -- of the clock's reading only the event's time is asked
 abbrev pub DecidesByTheTime : Type 0
@@ -114,6 +118,10 @@ UnusedHasNoChange = (h : History) (tid : List ℕ) → Legal h → is_unused (tr
 -- a request began it by its state exactly where a Grant or a Hold has its transactionID
 abbrev pub DealHasGrantOrHold : Type 0
 DealHasGrantOrHold = (h : History) (tid : List ℕ) → Legal h → is_deal (transaction_state h tid) ≡ is_some (deal_of h tid)
+
+-- what protects the reply to a sender is its credential's secret or key, in each later history too
+abbrev pub SecretIsTheOwners : Type 0
+SecretIsTheOwners = (h more : History) (kind : Option Kind) (kid : List ℕ) (o : Owner) → Legal h → owner_for h kind kid ≡ Some o → secret_of (h ++ more) o.who ≡ o.key
 
 -- ---- what is served so far
 

@@ -1,6 +1,6 @@
 -- What a message says, as far as a decision asks. Of its octets only these facts are asked, so the table knows no octets. What
 -- the octets settle beside a key or a certificate is a function of it.
-use Rattle.std.specs.Prelude.{◌≡◌, ℕ, ◌<◌, ◌^◌, Bool, true, false, ◌||◌, ◌==◌, List, length, Option, None, IfSome, if◌then◌else◌}
+use Rattle.std.specs.Prelude.{◌≡◌, ℕ, ◌<◌, ◌^◌, Bool, true, false, ◌||◌, ◌==◌, List, length, Option, None, is_some, IfSome, if◌then◌else◌}
 use Rattle.deal_changes.specs.declared.change.Kind.{Kind}
 use Rattle.deal_changes.specs.declared.change.Body4.{Body4}
 use Rattle.deal_changes.specs.declared.change.Wish.{Wish}
@@ -38,9 +38,9 @@ pub record Enrolment : Type 0 where
   pub by_ra : Bool
   pub is_proven : Bool
 
--- A certConf (RFC 9810, 5.3.18): the number of its statuses, 2 for more, and of the first one the certReqId; the status, 0 where
--- it is absent, 0 to 2, or 3 for any other; whether hashAlg is absent or SHA-256; whether certHash is that of the certificate of
--- a Grant, where that was compared.
+-- A certConf (RFC 9810, 5.3.18): the number of its statuses, 2 for more, and of the first one the certReqId; the status, 0
+-- where it is absent, 0 to 2, or 3 for any other; whether hashAlg is absent or SHA-256; whether certHash is that of the
+-- certificate of a Grant, where that was compared.
 pub record Confirmation : Type 0 where
   pub count : ℕ
   pub id : RequestId
@@ -150,7 +150,18 @@ echo_to l outer = echo_of (if outer then l.message.header else (subject_of l).he
 abbrev pub echoed : Echo → Echoed
 echoed e = record { pvno = e.pvno; sender = e.sender.now; tid = e.tid; nonce = e.nonce }
 
--- ---- a message of which nobody has compared certHash
+-- ---- whether certHash is compared
+
+-- certHash is compared with each certificate that was granted
+abbrev pub Compares : Body → Type 0
+Compares (Confirms c) = (r : Receipted) → is_some (c.matches r) ≡ true
+Compares (Enrols e) = Unit {0}
+Compares (Polls p) = Unit {0}
+Compares (Withdraws w) = Unit {0}
+Compares (Nests count) = Unit {0}
+Compares OtherBody = Unit {0}
+
+-- a message of which nobody has compared certHash
 
 abbrev pub blind_body : Body → Body
 blind_body (Confirms c) = Confirms (record c { matches = λ r. None })

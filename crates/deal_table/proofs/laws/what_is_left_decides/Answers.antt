@@ -1,6 +1,6 @@
 use Rattle.deal_table.proofs.Later.{decision_left}
 use Rattle.deal_table.proofs.Blind.{blind_refines}
-use Rattle.deal_table.proofs.Sends.{left_sends, left_asks, decided_later}
+use Rattle.deal_table.proofs.Sends.{left_sends, left_asks, never_asks, decided_later}
 use Rattle.deal_table.proofs.laws.what_is_left_decides.Goals as goal
 
 pub returns-clause-left : goal.returns-clause-left
@@ -14,6 +14,9 @@ returns-clause-sends c = left_sends
 
 pub returns-clause-asks : goal.returns-clause-asks
 returns-clause-asks c = left_asks
+
+pub returns-clause-compared : goal.returns-clause-compared
+returns-clause-compared c = never_asks
 
 pub returns-clause-time : goal.returns-clause-time
 returns-clause-time c = decided_later

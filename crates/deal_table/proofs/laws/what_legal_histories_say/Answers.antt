@@ -1,5 +1,6 @@
 use Rattle.deal_table.proofs.Deals.{unused_has, deal_has}
 use Rattle.deal_table.proofs.Forms.{nobody}
+use Rattle.deal_table.proofs.Senders.{secret_is}
 use Rattle.deal_table.proofs.laws.what_legal_histories_say.Goals as goal
 
 pub returns-clause-unused : goal.returns-clause-unused
@@ -10,3 +11,6 @@ returns-clause-deal c = deal_has
 
 pub returns-clause-nobody : goal.returns-clause-nobody
 returns-clause-nobody c = nobody
+
+pub returns-clause-secret : goal.returns-clause-secret
+returns-clause-secret c = secret_is
