@@ -1,8 +1,8 @@
 -- Messages over small histories, decided by computing, so that a wrong row doesn't check.
-use Rattle.std.proofs.Common.{◌≡◌, ℕ, Bool, true, false, List, [], ◌∷◌, ◌++◌, Some, None, refl}
+use Rattle.std.proofs.Common.{◌≡◌, ℕ, Bool, true, false, List, [], ◌∷◌, ◌++◌, Option, Some, None, refl}
 use Rattle.std.specs.Prelude.{replicate}
 use Rattle.deal_changes.specs.declared.change.Kind.TheVariants.{Mac, Lms}
-use Rattle.deal_changes.specs.declared.change.Who.TheVariants.{Listed}
+use Rattle.deal_changes.specs.declared.change.Who.TheVariants.{Listed, Cert}
 use Rattle.deal_changes.specs.declared.change.Body4.{Body4}
 use Rattle.deal_changes.specs.declared.change.Body4.TheVariants.{Ir, Cr, P10cr, Kur}
 use Rattle.deal_changes.specs.declared.change.Credential.{Credential}
@@ -11,11 +11,11 @@ use Rattle.deal_changes.specs.declared.change.Stamp.{Stamp}
 use Rattle.deal_changes.specs.declared.change.Wish.{Wish}
 use Rattle.deal_changes.specs.declared.change.Change.TheVariants.{Found, Enlist, Dismiss, Grant, Hold, Release, Deny, Turned, Polled, Settled, Revoke, Lapse}
 use Rattle.deal_changes.specs.Spelling.{u16, u32, u64}
-use Rattle.deal_model.specs.Keys.{tree_of, leaves_of, key_id, key_of}
+use Rattle.deal_model.specs.Keys.{tree_of, leaves_of, key_id, key_of, is_lms_key}
 use Rattle.deal_model.specs.Views.{History, same, owner_of, standing_of, at_first, after_lapse, after_settled, after_revoke, certificate_state, after_grant, transaction_state, last_nonce, leaves_used}
 use Rattle.deal_table.specs.declared.fail.FailInfo.TheVariants.{BadAlg, BadMessageCheck, BadRequest, BadTime, BadCertId, BadDataFormat, BadPop, CertRevoked, CertConfirmed, WrongIntegrity, BadRecipientNonce, BadSenderNonce, BadCertTemplate, SignerNotTrusted, TransactionIdInUse, UnsupportedVersion, NotAuthorized, SystemUnavail, DuplicateCertReq}
 use Rattle.deal_table.specs.History.{place_of_digest, deal_of, receipt_at, grant_receipt}
-use Rattle.deal_table.specs.Message.{Zero, MinusOne, OtherId, Enrolment, Confirmation, Polling, Withdrawal, Body, Enrols, Confirms, Polls, Withdraws, Nests, OtherBody, Header, Facts, Letter}
+use Rattle.deal_table.specs.Message.{Zero, MinusOne, OtherId, Named, Enrolment, Confirmation, Polling, Withdrawal, Body, Enrols, Confirms, Polls, Withdraws, Nests, OtherBody, Header, Facts, Letter}
 use Rattle.deal_table.specs.Table.{To, Decision, Makes, Repeats, Refuses, Asks, decision}
 
 -- ---- a service with four credentials
@@ -484,3 +484,52 @@ inner_late = refl
 inner_unprotected : decided_letter service (record { message = message 0 0 2 (Nests 1); inner = record (message 1 1 1 (Enrols request)) { is_protected = false } }) ≡ Refuses BadMessageCheck bare
 unfolding decided_letter
 inner_unprotected = refl
+
+-- ---- a certificate as the sender
+
+-- 1 was granted a certificate, which was confirmed at once where that was asked for
+abbrev certified : Settings → Bool → History
+certified with implicit = Found with ∷ Enlist 10 (listed 1 1 ∷ []) ∷ Grant (stamp 1 1 1 500) Ir (record wish { implicit = implicit }) 3 2 ∷ []
+
+-- a key update under the certificate's key, for another key
+abbrev update : Option Named → Facts
+update old = record (message 2 2 11 (Enrols (record request { body = Kur; old = old; wish = record wish { spki = 9 ∷ [] } }))) { header = record (message 2 2 11 OtherBody).header { kind = Some Lms }; verifies = λ k. true }
+
+-- the certificate's key is an HSS/LMS key with the identifier 11
+abbrev IsEleven : Type 0
+IsEleven = (is_lms_key (6 ∷ []) ≡ true) × (same (key_id (key_of (6 ∷ []))) (11 ∷ []) ≡ true)
+
+-- the other key stands nowhere
+abbrev IsOther : Type 0
+IsOther = (same (key_id key) (key_id (key_of (9 ∷ []))) ≡ false) × (same (key_id (key_of (6 ∷ []))) (key_id (key_of (9 ∷ []))) ≡ false)
+
+abbrev update_stamp : Stamp
+update_stamp = record (stamp 2 2 11 1000) { who = Cert 3; leaf = Some 0 }
+
+updated : IsEleven → IsOther → decided (certified settings true) (update None) ≡ Makes (Grant update_stamp Kur (record wish { spki = 9 ∷ [] }) 4 3)
+unfolding decided
+updated is other = rw (is.0, is.1) (rw (is.0, is.1, other.0, other.1) refl)
+
+updated_old : IsEleven → IsOther → decided (certified settings true) (update (Some (record { issuer = Some (7 ∷ []); serial = Some 3 }))) ≡ Makes (Grant update_stamp Kur (record wish { spki = 9 ∷ [] }) 4 3)
+unfolding decided
+updated_old is other = rw (is.0, is.1) (rw (is.0, is.1, other.0, other.1) refl)
+
+other_old : IsEleven → decided (certified settings true) (update (Some (record { issuer = Some (7 ∷ []); serial = Some 4 }))) ≡ Refuses BadCertId bare
+unfolding decided
+other_old is = rw (is.0, is.1) (rw (is.0, is.1) refl)
+
+old_elsewhere : IsEleven → decided (certified settings true) (update (Some (record { issuer = Some (8 ∷ []); serial = Some 3 }))) ≡ Refuses BadCertId bare
+unfolding decided
+old_elsewhere is = rw (is.0, is.1) (rw (is.0, is.1) refl)
+
+not_confirmed : IsEleven → decided (certified settings false) (update None) ≡ Refuses NotAuthorized bare
+unfolding decided
+not_confirmed is = rw (is.0, is.1) (rw (is.0, is.1) refl)
+
+over : IsEleven → decided (certified (record settings { days = 0 }) true) (update None) ≡ Refuses NotAuthorized bare
+unfolding decided
+over is = rw (is.0, is.1) (rw (is.0, is.1) refl)
+
+revokes_itself : IsEleven → decided (certified settings true) (record (update None) { body = Withdraws withdrawal }) ≡ Makes (Revoke update_stamp 3 4)
+unfolding decided
+revokes_itself is = rw (is.0, is.1) (rw (is.0, is.1) refl)
