@@ -1,7 +1,8 @@
 -- What a look refuses is refused.
-use Rattle.std.proofs.Common.{◌≡◌, ℕ, Bool, true, false, not, cond, List, [], ◌∷◌, ◌++◌, Option, Some, None, refl, sym, ap, subst, ◌∙◌}
+use Rattle.std.proofs.Common.{◌≡◌, ℕ, Bool, true, false, not, cond, List, [], ◌∷◌, ◌++◌, Option, Some, None, is_some, refl, sym, ap, subst, ◌∙◌}
 use Rattle.std.specs.Prelude.{unwrap_or}
 use Rattle.deal_changes.specs.declared.change.Kind.{Kind}
+use Rattle.deal_changes.specs.declared.change.Kind.TheVariants.{Mac, Lms}
 use Rattle.deal_changes.specs.declared.change.Change.TheVariants.{Revoke}
 use Rattle.deal_model.specs.declared.asking.Ask.{Ask}
 use Rattle.deal_model.specs.declared.states.Owner.{Owner}
@@ -13,9 +14,10 @@ use Rattle.deal_table.specs.declared.fail.FailInfo.TheVariants.{BadMessageCheck,
 use Rattle.deal_table.specs.declared.look.Look.{Look}
 use Rattle.deal_table.specs.History.{name_of, skew_of, place_of_digest, event_time, outer_standing, look_of}
 use Rattle.deal_table.specs.Message.{Body, Enrols, Confirms, Polls, Withdraws, Nests, OtherBody, is_nested, Facts, Letter, subject_of}
-use Rattle.deal_table.specs.Table.{Row, ◌when◌, To, Decision, Repeats, Refuses, Event, Sent, unless, bare, guarded, known, protection_rows, check_rows, time_rows, trusted_by, standing_now, tid_of, served_rows, new_rows, old_rows, party_rows, confirm_rows, deal_certificate, poll_rows, entry_rows, wish_rows, key_rows, proof_rows, is_possessed, reason_rows, revoke_rows, state_now, deal_now, enrolled, made, settles, poll_made, stamp_by, about, repeated, passed, form_rows, header_rows, wrap_rows, read, opened, decision}
-use Rattle.deal_table.specs.Looked.{IsAskOf, looked_about, looked_passed, looked_opened, IsRefusedByLook}
+use Rattle.deal_table.specs.Table.{Row, ◌when◌, To, Decision, Repeats, Refuses, Event, Sent, unless, bare, guard_by, guarded, known, protection_rows, check_rows, time_rows, trusted_by, standing_now, tid_of, served_rows, new_rows, old_rows, party_rows, confirm_rows, deal_certificate, poll_rows, entry_rows, wish_rows, key_rows, proof_rows, is_possessed, reason_rows, revoke_rows, state_now, deal_now, enrolled, made, settles, poll_made, stamp_by, about, repeated, passed, form_rows, header_rows, wrap_rows, read, opened, decision}
+use Rattle.deal_table.specs.Looked.{looked, looked_to, IsAskOf, looked_about, looked_passed, looked_opened, IsRefusedByLook}
 use Rattle.deal_table.proofs.Rows.{unless_append}
+use Rattle.deal_table.proofs.Sends.{Goes, unless_goes, trusted_by_goes, repeated_goes, read_goes, sent_to}
 
 -- where the one is this refusal, the other is
 abbrev pub Follows : FailInfo → To → Decision → Decision → Type 0
@@ -105,3 +107,48 @@ module _ (fail : FailInfo) (to : To) where
 
 pub look_refuses : (h : History) (l : Letter) (ask : Ask) (now : ℕ) (w : List ℕ) (fail : FailInfo) (to : To) → IsAskOf l ask → IsRefusedByLook (look_of h ask now) (name_of h) l fail to → decision h l now w ≡ Refuses fail to
 look_refuses h l ask now w fail to a refused = read_follows fail to (bare false) (bare (is_nested l.message.body)) l.message _ _ (opened_follows fail to h l ask now w a) (refused (Repeats 0))
+
+-- ---- to whom
+
+-- nobody's secret, or the one that the look tells
+abbrev pub IsLookedTo : Ask → Look → To → Type 0
+IsLookedTo ask look to = to ≡ looked_to ask look to.outer (is_some to.guard)
+
+inner_guard : (ask : Ask) (look : Look) (kind : Option Kind) (kid : List ℕ) (o : Owner) → kid ≡ ask.kid → look.cred ≡ Good o.who o.key o.rights → IsLookedTo ask look (record { outer = false; guard = guard_by kind kid o })
+inner_guard ask look (Some Mac) kid o e g = rw (e, g) refl
+inner_guard ask look (Some Lms) kid o e g = refl
+inner_guard ask look None kid o e g = refl
+
+outer_guard : (ask : Ask) (look : Look) (kind : Option Kind) (kid : List ℕ) (o : Owner) → ((k : Kind) → kind ≡ Some k → ask.outer ≡ Some (k, kid)) → look.outer ≡ Good o.who o.key o.rights → IsLookedTo ask look (record { outer = true; guard = guard_by kind kid o })
+outer_guard ask look (Some Mac) kid o e g = rw (e Mac refl, g) refl
+outer_guard ask look (Some Lms) kid o e g = refl
+outer_guard ask look None kid o e g = refl
+
+about_to : (ask : Ask) (look : Look) (name : List ℕ) (to : To) (o : Owner) (body : Body) → IsLookedTo ask look to → Goes (IsLookedTo ask look) (λ n. Unit {0}) (looked_about look name to o body (Repeats 0))
+about_to ask look name to o (Enrols e) r = unless_goes (IsLookedTo ask look) (λ n. Unit {0}) to (new_rows look.tid_state ++ wish_rows name o e) _ r tt
+about_to ask look name to o (Confirms f) r = unless_goes (IsLookedTo ask look) (λ n. Unit {0}) to (old_rows look.tid_state) _ r tt
+about_to ask look name to o (Polls p) r = unless_goes (IsLookedTo ask look) (λ n. Unit {0}) to (old_rows look.tid_state) _ r tt
+about_to ask look name to o (Withdraws a) r = unless_goes (IsLookedTo ask look) (λ n. Unit {0}) to (new_rows look.tid_state ++ reason_rows name a) _ r tt
+about_to ask look name to o (Nests count) r = r
+about_to ask look name to o OtherBody r = r
+
+passed_to : (ask : Ask) (look : Look) (name : List ℕ) (m : Facts) → m.header.kid ≡ ask.kid → Goes (IsLookedTo ask look) (λ n. Unit {0}) (looked_passed look name m (Repeats 0))
+passed_to ask look name m kid = repeated_goes (IsLookedTo ask look) (λ n. Unit {0}) look.repeat _ (λ new. unless_goes (IsLookedTo ask look) (λ n. Unit {0}) (bare false) (served_rows m) _ refl
+    (trusted_by_goes (IsLookedTo ask look) (λ n. Unit {0}) look.cred look.settings.skew look.time false m _ refl (λ o g. inner_guard ask look m.header.kind m.header.kid o kid g)
+    (λ o g. about_to ask look name (guarded false m o) o m.body (inner_guard ask look m.header.kind m.header.kid o kid g))))
+
+opened_to : (l : Letter) (ask : Ask) (look : Look) (name : List ℕ) → IsAskOf l ask → Goes (IsLookedTo ask look) (λ n. Unit {0}) (looked_opened look name l (Repeats 0))
+opened_to l ask look name a = by_body (is_nested l.message.body) refl
+  where
+    by_body : (b : Bool) → is_nested l.message.body ≡ b → Goes (IsLookedTo ask look) (λ n. Unit {0}) (looked_opened look name l (Repeats 0))
+    by_body true is =
+        let guard : (o : Owner) → look.outer ≡ Good o.who o.key o.rights → IsLookedTo ask look (guarded true l.message o) = λ o g. outer_guard ask look l.message.header.kind l.message.header.kid o (λ k e. a.outer k is e) g in
+        let kid : l.inner.header.kid ≡ ask.kid = subst (λ b. (cond b l.inner l.message).header.kid ≡ ask.kid) is a.kid in
+        rw is (trusted_by_goes (IsLookedTo ask look) (λ n. Unit {0}) look.outer look.settings.skew look.time true l.message _ refl guard
+        (λ o g. unless_goes (IsLookedTo ask look) (λ n. Unit {0}) (guarded true l.message o) (wrap_rows l.message o) _ (guard o g)
+        (read_goes (IsLookedTo ask look) (λ n. Unit {0}) (guarded true l.message o) (bare false) l.inner _ (guard o g) refl (passed_to ask look name l.inner kid))))
+    by_body false is = rw is (passed_to ask look name l.message (subst (λ b. (cond b l.inner l.message).header.kid ≡ ask.kid) is a.kid))
+
+pub look_sends : (l : Letter) (ask : Ask) (look : Look) (name : List ℕ) (fail : FailInfo) (to : To) → IsAskOf l ask → IsRefusedByLook look name l fail to → to ≡ looked_to ask look to.outer (is_some to.guard)
+look_sends l ask look name fail to a refused = sent_to (IsLookedTo ask look) (looked look name l (Repeats 0)) fail to
+    (read_goes (IsLookedTo ask look) (λ n. Unit {0}) (bare false) (bare (is_nested l.message.body)) l.message _ refl refl (opened_to l ask look name a)) (refused (Repeats 0))

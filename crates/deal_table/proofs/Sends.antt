@@ -1,5 +1,5 @@
 -- Whom a refusal of what is left answers, and when what is left asks.
-use Rattle.std.proofs.Common.{◌≡◌, ℕ, max, Bool, true, false, cond, List, [], ◌∷◌, ◌++◌, Option, Some, None, is_some, refl, sym, ap, subst, ◌∙◌, arith}
+use Rattle.std.proofs.Common.{◌≡◌, ℕ, max, Bool, true, false, cond, List, [], ◌∷◌, ◌++◌, Option, Some, None, is_some, refl, sym, ap, subst, ◌∙◌, inl, inr, ◌⊎◌, arith}
 use Rattle.std.specs.Prelude.{if◌then◌else◌, unwrap_or, nat_lt, ◌==◌}
 use Rattle.std.proofs.lemmas.Option.{none-some, same_Some}
 use Rattle.deal_changes.specs.declared.change.Kind.{Kind}
@@ -16,12 +16,13 @@ use Rattle.deal_model.specs.declared.states.Standing.TheVariants.{Unknown, Other
 use Rattle.deal_model.specs.Views.{History, is_told, time_of}
 use Rattle.deal_table.specs.declared.fail.FailInfo.{FailInfo}
 use Rattle.deal_table.specs.History.{Receipted, Deal, Begins, name_of, skew_of, place_of_digest, event_time, grant_receipt, owner_for, standing_for}
-use Rattle.deal_table.specs.Message.{Compares, Confirmation, Body, Enrols, Confirms, Polls, Withdraws, Nests, OtherBody, is_nested, Header, Facts, Letter, subject_of}
-use Rattle.deal_table.specs.Table.{Row, To, Decision, Makes, Repeats, Refuses, Asks, Event, Sent, unless, bare, guard_by, guarded, known, protection_rows, check_rows, time_rows, standing_now, trusted, old_rows, new_rows, party_rows, confirm_rows, poll_rows, entry_rows, reason_rows, revoke_rows, wish_rows, key_rows, proof_rows, is_possessed, enrolled, polled, poll_made, deal_certificate, state_now, deal_now, tid_of, status_rows, compared, compared_with, settles, stamp_by, room_rows, made, about, repeated, passed, served_rows, form_rows, header_rows, wrap_rows, read, opened, decision}
-use Rattle.deal_table.specs.Carry.{header_by, rest_body, rest_facts, rest_outer, rest_message, rest, left, untold, IsChecked, IsForJob, IsInside, Carries, is_confirm_job, IsStale, secret_by, carried_to}
+use Rattle.deal_table.specs.Message.{Compares, Confirmation, Body, Enrols, Confirms, Polls, Withdraws, Nests, OtherBody, is_nested, Header, Facts, Letter, subject_of, blind}
+use Rattle.deal_table.specs.Table.{Row, To, Decision, Makes, Repeats, Refuses, Asks, Event, Sent, unless, bare, guard_by, guarded, known, protection_rows, check_rows, time_rows, standing_now, trusted_by, trusted, old_rows, new_rows, party_rows, confirm_rows, poll_rows, entry_rows, reason_rows, revoke_rows, wish_rows, key_rows, proof_rows, is_possessed, enrolled, polled, poll_made, deal_certificate, state_now, deal_now, tid_of, status_rows, compared, compared_with, settles, stamp_by, room_rows, made, about, repeated, passed, served_rows, form_rows, header_rows, wrap_rows, read, opened, decision}
+use Rattle.deal_table.specs.Carry.{HashIsTold, as_told, IsAnswer, header_by, rest_body, rest_facts, rest_outer, rest_message, rest, left, untold, IsChecked, IsForJob, IsInside, Carries, is_confirm_job, IsStale, secret_by, carried_to}
 use Rattle.deal_table.proofs.Owners.{owner_good}
 use Rattle.deal_table.proofs.Split.{opened_plain, outer_protected, rest_plain}
-use Rattle.deal_table.proofs.Later.{carries_later, carries_told}
+use Rattle.deal_table.proofs.Blind.{blind_refines}
+use Rattle.deal_table.proofs.Later.{decision_left, carries_later, carries_told}
 
 -- ---- every refusal goes where R says, and every question where A says
 
@@ -37,7 +38,7 @@ MayAsk A h tid (Confirms f) = (r : Receipted) → grant_receipt h tid ≡ Some r
 MayAsk A h tid _ = Unit {0}
 
 module _ (R : To → Type 0) (A : ℕ → Type 0) where
-  unless_goes : (to : To) (rows : List Row) (next : Decision) → R to → Goes R A next → Goes R A (unless to rows next)
+  pub unless_goes : (to : To) (rows : List Row) (next : Decision) → R to → Goes R A next → Goes R A (unless to rows next)
   unless_goes to [] next r g = g
   unless_goes to (row ∷ rows) next r g = elim row.applies as (λ v. Goes R A (cond v (Refuses row.fail to) (unless to rows next))) [ true ↦ r | false ↦ unless_goes to rows next r g ]
 
@@ -50,9 +51,14 @@ module _ (R : To → Type 0) (A : ℕ → Type 0) where
   known_goes to Barred next r g = r
   known_goes to (Good who key rights) next r g = g (record { who = who; key = key; rights = rights }) refl
 
-  trusted_goes : (h : History) (t : ℕ) (outer : Bool) (m : Facts) (next : Owner → Decision) → R (bare outer) → ((o : Owner) → standing_now h t m ≡ Good o.who o.key o.rights → R (guarded outer m o)) → ((o : Owner) → standing_now h t m ≡ Good o.who o.key o.rights → Goes R A (next o)) → Goes R A (trusted h t outer m next)
-  trusted_goes h t outer m next r q g = unless_goes (bare outer) (protection_rows m) _ r (known_goes (bare outer) (standing_now h t m) _ r
-      (λ o e. unless_goes (bare outer) (check_rows m o) _ r (unless_goes (guarded outer m o) (time_rows m (skew_of h) t) _ (q o e) (g o e))))
+  pub trusted_by_goes : (standing : Standing) (skew t : ℕ) (outer : Bool) (m : Facts) (next : Owner → Decision) → R (bare outer) → ((o : Owner) → standing ≡ Good o.who o.key o.rights → R (guarded outer m o))
+      → ((o : Owner) → standing ≡ Good o.who o.key o.rights → Goes R A (next o)) → Goes R A (trusted_by standing skew t outer m next)
+  trusted_by_goes standing skew t outer m next r q g = unless_goes (bare outer) (protection_rows m) _ r (known_goes (bare outer) standing _ r
+      (λ o e. unless_goes (bare outer) (check_rows m o) _ r (unless_goes (guarded outer m o) (time_rows m skew t) _ (q o e) (g o e))))
+
+  trusted_goes : (h : History) (t : ℕ) (outer : Bool) (m : Facts) (next : Owner → Decision) → R (bare outer) → ((o : Owner) → standing_now h t m ≡ Good o.who o.key o.rights → R (guarded outer m o))
+      → ((o : Owner) → standing_now h t m ≡ Good o.who o.key o.rights → Goes R A (next o)) → Goes R A (trusted h t outer m next)
+  trusted_goes h t outer m next r q g = trusted_by_goes (standing_now h t m) (skew_of h) t outer m next r q g
 
   compared_goes : (to : To) (place : ℕ) (told : Option Bool) (next : Decision) → R to → (told ≡ None → A place) → Goes R A next → Goes R A (compared to place told next)
   compared_goes to place (Some true) next r a g = g
@@ -81,7 +87,7 @@ module _ (R : To → Type 0) (A : ℕ → Type 0) where
   about_goes v s (Nests count) r a = r
   about_goes v s OtherBody r a = r
 
-  repeated_goes : (found : Option ℕ) (next : Decision) → (found ≡ None → Goes R A next) → Goes R A (repeated found next)
+  pub repeated_goes : (found : Option ℕ) (next : Decision) → (found ≡ None → Goes R A next) → Goes R A (repeated found next)
   repeated_goes (Some place) next g = tt
   repeated_goes None next g = g refl
 
@@ -89,7 +95,7 @@ module _ (R : To → Type 0) (A : ℕ → Type 0) where
   passed_goes v m r q a = repeated_goes (place_of_digest v.history m.digest) _ (λ new. unless_goes (bare false) (served_rows m) _ r (trusted_goes v.history v.time false m _ r (q new)
       (λ o e. about_goes v (record { to = guarded false m o; digest = m.digest; header = m.header; owner = o }) m.body (q new o e) a)))
 
-  read_goes : (unreadable to : To) (m : Facts) (next : Decision) → R unreadable → R to → Goes R A next → Goes R A (read unreadable to m next)
+  pub read_goes : (unreadable to : To) (m : Facts) (next : Decision) → R unreadable → R to → Goes R A next → Goes R A (read unreadable to m next)
   read_goes unreadable to m next r q g = unless_goes unreadable (form_rows m) _ r (unless_goes to (header_rows m.header) _ q g)
 
   -- what protects a refusal to the nested message around it
@@ -163,7 +169,7 @@ any_asks h tid (Withdraws w) = tt
 any_asks h tid (Nests count) = tt
 any_asks h tid OtherBody = tt
 
-sent_to : (R : To → Type 0) (d : Decision) (fail : FailInfo) (to : To) → Goes R (λ n. Unit {0}) d → d ≡ Refuses fail to → R to
+pub sent_to : (R : To → Type 0) (d : Decision) (fail : FailInfo) (to : To) → Goes R (λ n. Unit {0}) d → d ≡ Refuses fail to → R to
 sent_to R d fail to g e = subst (λ x. Goes R (λ n. Unit {0}) x) e g
 
 pub left_sends : (l : Letter) (c : Checked) (looked h : History) (now : ℕ) (w : List ℕ) (fail : FailInfo) (to : To) → Carries l (untold c) looked → Begins looked h → left h c now w ≡ Refuses fail to → to ≡ carried_to c to.outer (is_some to.guard)
@@ -226,3 +232,28 @@ event_again now last = omega arith
 
 pub decided_later : (h : History) (l : Letter) (now : ℕ) (w : List ℕ) → decision h l (event_time h now) w ≡ decision h l now w
 decided_later h l now w = ap (λ t. read (bare false) (bare (is_nested l.message.body)) l.message (opened (record { history = h; time = t; words = w }) l)) (event_again now (time_of h))
+
+-- ---- the answer of what is left is that of the message
+
+refined : (d e other : Decision) → (d ≡ e) ⊎ ((place : ℕ) × (d ≡ Asks place)) → d ≡ other → IsAnswer other → e ≡ other
+refined d e other (inl same) is answer = sym same ∙ is
+refined d e (Makes c) (inr asks) is answer = absurd (let f : Asks asks.0 ≡ Makes c = sym asks.1 ∙ is in cc)
+refined d e (Repeats place) (inr asks) is answer = absurd (let f : Asks asks.0 ≡ Repeats place = sym asks.1 ∙ is in cc)
+refined d e (Refuses fail to) (inr asks) is answer = absurd (let f : Asks asks.0 ≡ Refuses fail to = sym asks.1 ∙ is in cc)
+refined d e (Asks place) (inr asks) is answer = elim answer [ ]
+
+told_answers : (h : History) (l : Letter) (now : ℕ) (w : List ℕ) (told : Option Bool) (d : Decision) → decision h (as_told told l) now w ≡ d → IsAnswer d → decision h l now w ≡ d
+told_answers h l now w (Some told) d e answer = e
+told_answers h l now w None d e answer = refined (decision h (blind l) now w) (decision h l now w) d (blind_refines h l now w) e answer
+
+pub left_answers : (l : Letter) (c : Checked) (looked told h : History) (now : ℕ) (w : List ℕ) (d : Decision) → Carries l (untold c) looked → Begins looked h → HashIsTold l c told → Begins told h → left h c now w ≡ d → IsAnswer d → decision h l now w ≡ d
+left_answers l c looked told h now w d k b t s e answer = told_answers h l now w c.hash_ok d (decision_left l c looked told h now w k b t s ∙ e) answer
+
+told_asks : (h : History) (l : Letter) (now : ℕ) (w : List ℕ) (told : Option Bool) (place : ℕ) → told ≡ None → decision h (as_told told l) now w ≡ Asks place → decision h (blind l) now w ≡ Asks place
+told_asks h l now w None place none e = e
+told_asks h l now w (Some told) place none e = absurd (none-some told (sym none))
+
+pub left_stale : (l : Letter) (c : Checked) (looked told h : History) (now : ℕ) (w : List ℕ) (place : ℕ) → Carries l (untold c) looked → Begins looked h → HashIsTold l c told → Begins told h → left h c now w ≡ Asks place → (decision h (blind l) now w ≡ Asks place) × IsStale h c place
+left_stale l c looked told h now w place k b t s e =
+    let stale : IsStale h c place = left_asks h c now w place e in
+    (told_asks h l now w c.hash_ok place stale.untold (decision_left l c looked told h now w k b t s ∙ e), stale)

@@ -14,7 +14,7 @@ use Rattle.deal_model.specs.declared.states.Owner.{Owner}
 use Rattle.deal_model.specs.Views.{History}
 use Rattle.deal_table.specs.History.{Receipted, IsFounded, name_of, place_of_digest, owner_for, grant_receipt}
 use Rattle.deal_table.specs.Message.{RequestId, Zero, MinusOne, OtherId, Enrolment, Confirmation, Withdrawal, Body, Enrols, Confirms, Polls, Withdraws, Nests, OtherBody, is_nested, Header, Facts, Letter, subject_of, blind}
-use Rattle.deal_table.specs.Table.{Secret, To, Decision, pass, form_rows, header_rows, wish_rows, is_possessed, reason_rows, decision}
+use Rattle.deal_table.specs.Table.{Secret, To, Decision, Makes, Repeats, Refuses, Asks, pass, form_rows, header_rows, wish_rows, is_possessed, reason_rows, decision}
 
 -- ---- what is left, as a message
 
@@ -171,6 +171,13 @@ HashIsTold l c h = IsTold (subject_of l).body c.hash_ok c.ask.tid h
 abbrev pub as_told : Option Bool → Letter → Letter
 as_told (Some told) l = l
 as_told None l = blind l
+
+-- an answer: nothing has to be compared first
+abbrev pub IsAnswer : Decision → Type 0
+IsAnswer (Makes c) = Unit {0}
+IsAnswer (Repeats place) = Unit {0}
+IsAnswer (Refuses fail to) = Unit {0}
+IsAnswer (Asks place) = ⊥
 
 abbrev pub is_confirm_job : Job → Bool
 is_confirm_job Repeat = false

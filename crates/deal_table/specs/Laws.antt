@@ -11,13 +11,14 @@ use Rattle.deal_model.specs.Rules.{Allowed, Legal}
 use Rattle.deal_model.specs.declared.asking.Ask.{Ask}
 use Rattle.deal_model.specs.declared.asking.Checked.{Checked}
 use Rattle.deal_model.specs.declared.states.Standing.TheVariants.{Good}
-use Rattle.deal_table.specs.Looked.{IsAskOf, IsRefusedByLook}
+use Rattle.deal_table.specs.Looked.{IsAskOf, IsRefusedByLook, looked_to}
+use Rattle.deal_table.specs.declared.look.Look.{Look}
 use Rattle.deal_table.specs.declared.fail.FailInfo.{FailInfo}
 use Rattle.deal_table.specs.History.{Receipted, secret_of, Begins, name_of, look_of, deal_of, place_of, owner_for, event_time, receipt_at, grant_receipt}
 use Rattle.deal_table.specs.Message.{Compares, FitsMessage, Letter, subject_of, blind}
-use Rattle.deal_table.specs.Table.{To, is_unused, is_deal, Makes, Refuses, Asks, decision}
+use Rattle.deal_table.specs.Table.{To, Decision, is_unused, is_deal, Makes, Refuses, Asks, decision}
 use Rattle.deal_table.specs.Served.{decision_so_far, IsServedSoFar}
-use Rattle.deal_table.specs.Carry.{left, FitsChecked, Carries, untold, HashIsTold, as_told, IsStale, carried_to}
+use Rattle.deal_table.specs.Carry.{left, FitsChecked, Carries, untold, HashIsTold, as_told, IsAnswer, IsStale, carried_to}
 
 -- ---- what a history has settled stands in each later one
 
@@ -45,7 +46,18 @@ GrantReceiptsStay = (h more : History) (tid : List ℕ) (r : Receipted) → gran
 
 -- ---- the decision in parts
 
--- What carried a message at an earlier history decides it at a later one, as far as certHash was told, by what is left of it.
+-- What carried a message at an earlier history decides it at a later one: an answer of what is left is the whole table's.
+abbrev pub LeftAnswers : Type 0
+LeftAnswers = (l : Letter) (c : Checked) (looked told h : History) (now : ℕ) (w : List ℕ) (d : Decision) → Carries l (untold c) looked → Begins looked h → HashIsTold l c told → Begins told h
+    → left h c now w ≡ d → IsAnswer d → decision h l now w ≡ d
+
+-- Where what is left asks, so does the table of a message of which nobody has compared certHash, and nobody has: it is a certConf,
+-- to be compared with the certificate at the place of its transaction's Grant.
+abbrev pub LeftAsks : Type 0
+LeftAsks = (l : Letter) (c : Checked) (looked told h : History) (now : ℕ) (w : List ℕ) (place : ℕ) → Carries l (untold c) looked → Begins looked h → HashIsTold l c told → Begins told h
+    → left h c now w ≡ Asks place → (decision h (blind l) now w ≡ Asks place) × IsStale h c place
+
+-- the answer of what is left is that of the table, as far as certHash was told
 abbrev pub IsDecidedByTheRest : Type 0
 IsDecidedByTheRest = (l : Letter) (c : Checked) (looked told h : History) (now : ℕ) (w : List ℕ) → Carries l (untold c) looked → Begins looked h → HashIsTold l c told → Begins told h
     → decision h (as_told c.hash_ok l) now w ≡ left h c now w
@@ -58,10 +70,6 @@ DecidesOrAsks = (h : History) (l : Letter) (now : ℕ) (w : List ℕ) → (decis
 abbrev pub RefusesToTheCarried : Type 0
 RefusesToTheCarried = (l : Letter) (c : Checked) (looked h : History) (now : ℕ) (w : List ℕ) (fail : FailInfo) (to : To) → Carries l (untold c) looked → Begins looked h → left h c now w ≡ Refuses fail to
     → to ≡ carried_to c to.outer (is_some to.guard)
-
--- what is left asks only of a certConf whose certHash nobody has compared, and at the place of the transaction's Grant
-abbrev pub AsksOfTheStale : Type 0
-AsksOfTheStale = (h : History) (c : Checked) (now : ℕ) (w : List ℕ) (place : ℕ) → left h c now w ≡ Asks place → IsStale h c place
 
 -- a message whose certHash is compared never asks
 abbrev pub ComparedNeverAsks : Type 0
@@ -77,6 +85,10 @@ DecidesByTheTime = (h : History) (l : Letter) (now : ℕ) (w : List ℕ) → dec
 -- secret
 abbrev pub LookRefuses : Type 0
 LookRefuses = (h : History) (l : Letter) (ask : Ask) (now : ℕ) (w : List ℕ) (fail : FailInfo) (to : To) → IsAskOf l ask → IsRefusedByLook (look_of h ask now) (name_of h) l fail to → decision h l now w ≡ Refuses fail to
+
+-- a refusal of a look is protected by nothing, or by the secret that the look tells
+abbrev pub RefusesToTheLooked : Type 0
+RefusesToTheLooked = (l : Letter) (ask : Ask) (look : Look) (name : List ℕ) (fail : FailInfo) (to : To) → IsAskOf l ask → IsRefusedByLook look name l fail to → to ≡ looked_to ask look to.outer (is_some to.guard)
 
 -- a sender that is good at a look is the owner of its credential, who stays so
 abbrev pub LookTellsTheOwner : Type 0

@@ -1,13 +1,15 @@
 -- What a look at the history decides of a message: the rows of the table that ask no more than a look tells.
-use Rattle.std.specs.Prelude.{◌≡◌, ℕ, true, false, List, ◌++◌, Some, if◌then◌else◌}
+use Rattle.std.specs.Prelude.{◌≡◌, ℕ, Bool, true, false, List, ◌++◌, Option, Some, None, if◌then◌else◌}
 use Rattle.deal_changes.specs.declared.change.Kind.{Kind}
 use Rattle.deal_model.specs.declared.asking.Ask.{Ask}
 use Rattle.deal_model.specs.declared.states.Owner.{Owner}
+use Rattle.deal_model.specs.declared.states.Standing.{Standing}
+use Rattle.deal_model.specs.declared.states.Standing.TheVariants.{Unknown, OtherKind, Barred, Good}
 use Rattle.deal_table.specs.declared.fail.FailInfo.{FailInfo}
 use Rattle.deal_table.specs.declared.fail.FailInfo.TheVariants.{BadRequest}
 use Rattle.deal_table.specs.declared.look.Look.{Look}
 use Rattle.deal_table.specs.Message.{Body, Enrols, Confirms, Polls, Withdraws, Nests, OtherBody, is_nested, Facts, Letter, subject_of}
-use Rattle.deal_table.specs.Table.{To, Decision, Refuses, unless, bare, guarded, trusted_by, tid_of, served_rows, new_rows, old_rows, wish_rows, reason_rows, wrap_rows, repeated, read}
+use Rattle.deal_table.specs.Table.{Secret, To, Decision, Refuses, unless, bare, guarded, trusted_by, tid_of, served_rows, new_rows, old_rows, wish_rows, reason_rows, wrap_rows, repeated, read}
 
 -- What is asked of the history is what the message says: of the one that is about something its digest, its transaction and its
 -- credential; of the nested one around it its credential, where it has one of a kind that is served.
@@ -44,3 +46,18 @@ looked look name l next = read (bare false) (bare (is_nested l.message.body)) l.
 -- the look refuses the message, whatever would be decided next
 abbrev pub IsRefusedByLook : Look → List ℕ → Letter → FailInfo → To → Type 0
 IsRefusedByLook look name l fail to = (next : Decision) → looked look name l next ≡ Refuses fail to
+
+-- the secret of a sender that is good, under this reference
+abbrev pub secret_in : List ℕ → Standing → Option Secret
+secret_in kid (Good who key rights) = Some (record { kid = kid; key = key })
+secret_in kid Unknown = None
+secret_in kid OtherKind = None
+secret_in kid Barred = None
+
+abbrev pub outer_secret : Option (Kind × List ℕ) → Standing → Option Secret
+outer_secret (Some o) standing = secret_in o.1 standing
+outer_secret None standing = None
+
+-- whom a refusal answers, guarded by the secret that the look tells or not at all
+abbrev pub looked_to : Ask → Look → Bool → Bool → To
+looked_to ask look outer is_guarded = record { outer = outer; guard = if is_guarded then (if outer then outer_secret ask.outer look.outer else secret_in ask.kid look.cred) else None }

@@ -1,5 +1,5 @@
 //! Laws of the table, each the contract of a function that does nothing.
-ghost use Rattle.deal_table.specs.Laws.{SettingsStay, OwnersStay, FirstsStay, PlacesStay, ReceiptsStay, GrantReceiptsStay, IsDecidedByTheRest, DecidesOrAsks, RefusesToTheCarried, AsksOfTheStale, ComparedNeverAsks, DecidesByTheTime, LookRefuses, LookTellsTheOwner, LookTellsTheOuterOwner, MakesTheAllowed, LeftMakesTheAllowed, UnusedHasNoChange, DealHasGrantOrHold, NobodyIsUnnamed, SecretIsTheOwners, ServedIsWhole};
+ghost use Rattle.deal_table.specs.Laws.{SettingsStay, OwnersStay, FirstsStay, PlacesStay, ReceiptsStay, GrantReceiptsStay, LeftAnswers, LeftAsks, IsDecidedByTheRest, DecidesOrAsks, RefusesToTheCarried, ComparedNeverAsks, DecidesByTheTime, LookRefuses, RefusesToTheLooked, LookTellsTheOwner, LookTellsTheOuterOwner, MakesTheAllowed, LeftMakesTheAllowed, UnusedHasNoChange, DealHasGrantOrHold, NobodyIsUnnamed, SecretIsTheOwners, ServedIsWhole};
 
 /// What a history has settled stands in each later one: what the service was founded with; to whom a credential belongs; the
 /// first change of any sort, and its place; what the reply to a change needs.
@@ -16,18 +16,20 @@ pub fn what_is_settled_stays()
 /// same answer, refusals to the same header under the same secret. Where certHash wasn't compared, the answer is the same, or
 /// it has to be compared first. Of the clock's reading only the event's time is asked.
 pub fn what_is_left_decides()
+    ensures answers { LeftAnswers }
+    ensures asks { LeftAsks }
     ensures left { IsDecidedByTheRest }
     ensures blind { DecidesOrAsks }
     ensures sends { RefusesToTheCarried }
-    ensures asks { AsksOfTheStale }
     ensures compared { ComparedNeverAsks }
     ensures time { DecidesByTheTime }
 {}
 
 /// What a look tells: a message that its rows refuse is refused at the history that it looked at, with the same reason, to the
-/// same header, under the same secret; and a sender that is good is the owner of its credential.
+/// same header, under the same secret, which the look tells; and a sender that is good is the owner of its credential.
 pub fn what_a_look_tells()
     ensures refuses { LookRefuses }
+    ensures sends { RefusesToTheLooked }
     ensures owner { LookTellsTheOwner }
     ensures outer { LookTellsTheOuterOwner }
 {}

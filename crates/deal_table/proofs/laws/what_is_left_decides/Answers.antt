@@ -1,6 +1,6 @@
 use Rattle.deal_table.proofs.Later.{decision_left}
 use Rattle.deal_table.proofs.Blind.{blind_refines}
-use Rattle.deal_table.proofs.Sends.{left_sends, left_asks, never_asks, decided_later}
+use Rattle.deal_table.proofs.Sends.{left_answers, left_stale, left_sends, never_asks, decided_later}
 use Rattle.deal_table.proofs.laws.what_is_left_decides.Goals as goal
 
 pub returns-clause-left : goal.returns-clause-left
@@ -12,8 +12,11 @@ returns-clause-blind c = blind_refines
 pub returns-clause-sends : goal.returns-clause-sends
 returns-clause-sends c = left_sends
 
+pub returns-clause-answers : goal.returns-clause-answers
+returns-clause-answers c = left_answers
+
 pub returns-clause-asks : goal.returns-clause-asks
-returns-clause-asks c = left_asks
+returns-clause-asks c = left_stale
 
 pub returns-clause-compared : goal.returns-clause-compared
 returns-clause-compared c = never_asks
