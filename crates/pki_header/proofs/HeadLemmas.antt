@@ -65,7 +65,7 @@ some_there : {X : Type 0} (o : Option X) → IsTrue (is_some o) → (x : X) × (
 some_there None h = absurd (false_true h)
 some_there (Some x) h = (x, refl)
 
-info_test : (p : Part) → IsTrue (is_info p) ↔ IsInfo p
+pub info_test : (p : Part) → IsTrue (is_info p) ↔ IsInfo p
 unfolding is_info
 info_test p = (
   λ h.

@@ -1,12 +1,14 @@
 -- Headers from the fields of a plan.
-use Rattle.std.specs.Prelude.{◌≡◌, ℕ, ◌+◌, ◌++◌, List, [], length, Option, Some, None, option_map, unwrap_or}
-use Rattle.der_base.specs.Element.{element}
+use Rattle.std.specs.Prelude.{◌≡◌, ℕ, ◌+◌, ◌^◌, ◌<◌, ◌++◌, List, [], length, Option, Some, None, IfSome, option_map, unwrap_or}
+use Rattle.der_base.specs.Element.{element, IsElement}
+use Rattle.der_base.specs.Reading.{Part}
 use Rattle.asn_fields.specs.Forms.{optional_spelling}
-use Rattle.asn_types.specs.Algorithm.{algorithm_content}
+use Rattle.asn_types.specs.Algorithm.{Algorithm, FitsAlgorithm, algorithm_content}
 use Rattle.asn_types.specs.Template.{same}
 use Rattle.asn_parts.specs.Number.{number_octets}
-use Rattle.asn_parts.specs.Parts.{tagged}
-use Rattle.pki_header.specs.Header.{HeadForm, head_content, explicit_octets}
+use Rattle.asn_parts.specs.Parts.{tagged, IsWholeGeneral}
+use Rattle.pki_header.specs.Header.{HeadForm, FitsHead, head_content, explicit_octets}
+use Rattle.pki_header.specs.Rows.{IsFreeText, IsGeneralInfo}
 use Rattle.pki_header.specs.Time.{IsTimeOf}
 use Rattle.pki_header.specs.declared.plan.HeaderPlan.{HeaderPlan}
 
@@ -54,3 +56,32 @@ pub record Says (p : HeaderPlan) (time : Option (List ℕ)) (h : HeadForm) : Typ
 -- What is written of a plan is the spelling of each header that says what the plan does.
 abbrev pub PlanIsSpelled : Type 0
 PlanIsSpelled = (p : HeaderPlan) (time : Option (List ℕ)) (h : HeadForm) → Says p time h → planned_content p time ≡ head_content h
+
+-- The octets are the element of a general name.
+pub record IsNameElement (octets : List ℕ) : Type 0 where
+  pub name : Part
+  pub whole : name.whole ≡ octets
+  pub general : IsWholeGeneral name
+
+-- The octets are an AlgorithmIdentifier.
+pub record IsAlgorithmElement (octets : List ℕ) : Type 0 where
+  pub form : Algorithm
+  pub fits : FitsAlgorithm form
+  pub alone : IsElement octets 0x30 (algorithm_content form)
+
+-- The parts of a plan have the forms of their types.
+pub record FitsPlan (p : HeaderPlan) : Type 0 where
+  pub pvno : p.pvno < 2 ^ 8
+  pub sender : IsNameElement p.sender
+  pub recipient : IsNameElement p.recipient
+  pub alg : IfSome p.alg IsAlgorithmElement
+  pub free_text : IfSome p.free_text IsFreeText
+  pub info : IfSome p.info IsGeneralInfo
+
+-- The octets are a header that says what a plan does.
+pub record IsHeaderOf (p : HeaderPlan) (octets : List ℕ) : Type 0 where
+  pub form : HeadForm
+  pub fits : FitsHead form
+  pub timed : IsTimeOf form.time p.time
+  pub says : Says p form.time form
+  pub alone : IsElement octets 0x30 (head_content form)

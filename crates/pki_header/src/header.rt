@@ -176,8 +176,9 @@ fn is_info(e: &Element) -> bool
     read_alg(e).is_ok()
 }
 
-/// Whether a content is a row of general information.
-fn are_infos(content: &[u8]) -> bool
+/// Whether a content is a row of general information (RFC 9810, 5.1.1): elements that each have an object identifier and may
+/// have a value of any form, nothing over.
+pub fn are_infos(content: &[u8]) -> bool
     ensures { result ≡ list_all (passes is_info) (items_of content.now) }
 {
     for item in Items::new(content) {

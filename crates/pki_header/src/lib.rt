@@ -4,8 +4,8 @@
 mod header;
 mod plan;
 
-pub use header::{Header, read_header};
-pub use plan::{HeaderPlan, write_header, written_is_spelled};
+pub use header::{Header, are_infos, read_header};
+pub use plan::{HeaderPlan, write_header};
 
 #[cfg(test)]
 mod tests;

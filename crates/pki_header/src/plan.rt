@@ -5,7 +5,7 @@ ghost use Rattle.asn_fields.specs.Forms.{optional_spelling};
 ghost use Rattle.asn_types.specs.Template.{same};
 ghost use Rattle.asn_parts.specs.Number.{number_octets};
 ghost use Rattle.pki_header.specs.Header.{explicit_octets};
-ghost use Rattle.pki_header.specs.Plan.{planned_content, IsPlanned, field_size, plan_size, PlanIsSpelled};
+ghost use Rattle.pki_header.specs.Plan.{planned_content, IsPlanned, field_size, plan_size, FitsPlan, IsHeaderOf};
 ghost use Rattle.pki_header.specs.Time.{IsTimeOf};
 
 use asn_parts::number;
@@ -134,8 +134,8 @@ fn put_fields(
     put_rest(writer, plan)
 }
 
-/// Writes a header (RFC 9810, 5.1.1): the fields of the plan, put in as they stand. `AllocError` where memory runs out.
-pub fn write_header(alloc: Global, plan: &HeaderPlan) -> Result<Octets, AllocError>
+/// The octets of a header.
+fn header_written(alloc: Global, plan: &HeaderPlan) -> Result<Octets, AllocError>
     requires time { IfSome plan.now.time (λ t. t ≤ 253_402_300_799) }
     requires counted { plan_size plan.now + 256 < 2 ^ 32 }
     ensures { IfOk result (IsPlanned plan.now) }
@@ -147,8 +147,14 @@ pub fn write_header(alloc: Global, plan: &HeaderPlan) -> Result<Octets, AllocErr
     Ok(Octets::of(writer.finish()))
 }
 
-/// What is written of a plan is the spelling of each header that says what the plan does; so where that header fits,
-/// `read_header` reads it (its clause `only`).
-pub fn written_is_spelled()
-    ensures { PlanIsSpelled }
-{}
+/// Writes a header (RFC 9810, 5.1.1): the fields of the plan, put in as they stand. `AllocError` where memory runs out.
+pub fn write_header(alloc: Global, plan: &HeaderPlan) -> Result<Octets, AllocError>
+    requires time { IfSome plan.now.time (λ t. t ≤ 253_402_300_799) }
+    requires counted { plan_size plan.now + 256 < 2 ^ 32 }
+    ensures written { IfOk result (IsPlanned plan.now) }
+    ensures size { IfOk result (λ octets. length octets ≤ plan_size plan.now + 256) }
+    // What is written of parts that have the forms of their types is a header, which is read again with the plan's fields.
+    ensures again { FitsPlan plan.now → IfOk result (IsHeaderOf plan.now) }
+{
+    header_written(alloc, plan)
+}

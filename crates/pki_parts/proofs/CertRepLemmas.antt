@@ -218,7 +218,7 @@ rep_by bytes rep ca_pubs rest p row fits parts t is e =
       shown = ap shown_row is.shown ∙ shown_first is.entries;
     })
 
-rep_takes : (bytes : List ℕ) (rep : RepForm) → rep_at bytes ≡ Some rep → IsCertRep bytes rep
+pub rep_takes : (bytes : List ℕ) (rep : RepForm) → rep_at bytes ≡ Some rep → IsCertRep bytes rep
 unfolding rep_at
 rep_takes bytes rep e =
     bound (IsCertRep bytes rep) (optional_with (sole_with (tested_at are_certificates) 0x30) 0xA1 bytes) _ rep e (λ c r0 e0.
@@ -243,7 +243,7 @@ rep_spelled ca_pubs responses fits fit counted =
       row_again response_is_read 0x30 (omega arith) content (row_of responses) row,
     ) refl
 
-rep_again : (bytes : List ℕ) (rep : RepForm) → IsCertRep bytes rep → rep_at bytes ≡ Some rep
+pub rep_again : (bytes : List ℕ) (rep : RepForm) → IsCertRep bytes rep → rep_at bytes ≡ Some rep
 rep_again bytes rep is =
     ap rep_at is.spelled ∙ rep_spelled rep.ca_pubs is.responses is.ca_pubs is.fit is.counted
     ∙ ap (λ (r : RowForm ShownForm). let x : RepForm = record { ca_pubs = rep.ca_pubs; row = r } in Some x) (shown_first is.responses ∙ sym is.shown)

@@ -64,13 +64,13 @@ answer_again a fits =
 answer_is_read : IsRead answer_at answer_content FitsAnswer
 answer_is_read = record { takes = answer_takes; again = answer_again }
 
-poll_rep_takes : (p : Part) (row : RowForm PollForm) → poll_rep_at p ≡ Some row → IsPollRep p row
+pub poll_rep_takes : (p : Part) (row : RowForm PollForm) → poll_rep_at p ≡ Some row → IsPollRep p row
 unfolding poll_rep_at
 poll_rep_takes p row e =
     bound (IsPollRep p row) (list_at answer_at p) (λ (full : RowForm AnswerForm). Some (shown_row full)) row e (λ full read last.
     record { full = full; list = list_takes answer_is_read p full read; shown = sym (some_same (shown_row full) row last) })
 
-poll_rep_again : (p : Part) (row : RowForm PollForm) → IsPollRep p row → poll_rep_at p ≡ Some row
+pub poll_rep_again : (p : Part) (row : RowForm PollForm) → IsPollRep p row → poll_rep_at p ≡ Some row
 unfolding poll_rep_at
 poll_rep_again p row is = rw (list_again answer_is_read p is.full is.list) (ap (λ (x : RowForm PollForm). Some x) (sym is.shown))
 

@@ -112,7 +112,7 @@ inside_spelled statuses certs crls row counted each certs_fit crls_fit =
       field_last one_at 0xA1 same IsAny (omega arith) one_is_read crls crls_fit,
     ) refl
 
-rev_rep_takes : (p : Part) (row : RowForm StatusForm) → rev_rep_at p ≡ Some row → IsRevRep p row
+pub rev_rep_takes : (p : Part) (row : RowForm StatusForm) → rev_rep_at p ≡ Some row → IsRevRep p row
 unfolding rev_rep_at
 rev_rep_takes p row e =
     let t = tag_test (eqb p.tag 0x30) (rev_rep_inside_at p.content) row e in
@@ -129,7 +129,7 @@ rev_rep_takes p row e =
       crls_fit = s.crls_fit;
     }
 
-rev_rep_again : (p : Part) (row : RowForm StatusForm) → IsRevRep p row → rev_rep_at p ≡ Some row
+pub rev_rep_again : (p : Part) (row : RowForm StatusForm) → IsRevRep p row → rev_rep_at p ≡ Some row
 unfolding rev_rep_at
 rev_rep_again p row is =
     rw (eq-eqb p.tag 0x30 is.is_sequence) (ap rev_rep_inside_at is.spelled ∙ inside_spelled is.statuses is.certs is.crls row is.counted is.each is.certs_fit is.crls_fit)

@@ -302,6 +302,7 @@ pub fn read_cert_rep<'a>(e: &Element<'a>) -> Result<CertRep<'a>, BadForm>
     ensures found { IfOk result (λ r. (e.now.tag ≡ 0x30) × IsCertRep e.now.content.now (rep_of r)) }
     // What is spelled so is read.
     ensures only { (rep : RepForm) → e.now.tag ≡ 0x30 → IsCertRep e.now.content.now rep → Gives rep_of result (Some rep) }
+    ensures exact { Gives rep_of result (if e.now.tag == 0x30 then rep_at e.now.content.now else None) }
 {
     rep_element(e)
 }

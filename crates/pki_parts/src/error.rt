@@ -72,6 +72,7 @@ pub fn read_error<'a>(e: &Element<'a>) -> Result<ErrorMsg<'a>, BadForm>
     // What is spelled so is read.
     ensures only { (m : ErrorForm) → e.now.tag ≡ 0x30 → FitsError m → e.now.content.now ≡ error_content m
         → Gives error_of result (Some m) }
+    ensures exact { Gives error_of result (if e.now.tag == 0x30 then error_at e.now.content.now else None) }
 {
     error_element(e)
 }

@@ -112,13 +112,13 @@ p10_inside_again p fits =
 p10_law : IsRead (sole_with p10_inside_at 0x30) (tagged 0x30 p10_content) (FitsTagged p10_content FitsP10)
 p10_law = sole_is_read p10_inside_at 0x30 p10_content FitsP10 (omega arith) (record { takes = p10_inside_takes; again = p10_inside_again })
 
-p10_takes : (bytes : List ℕ) (p : P10Form) → p10_at bytes ≡ Some p → IsP10 bytes p
+pub p10_takes : (bytes : List ℕ) (p : P10Form) → p10_at bytes ≡ Some p → IsP10 bytes p
 unfolding p10_at
 p10_takes bytes p e =
     let w = p10_law.takes bytes p e in
     record { fits = w.0.0; alone = record { low_tag = omega arith; counted = w.0.1; spelled = w.1 } }
 
-p10_again : (bytes : List ℕ) (p : P10Form) → IsP10 bytes p → p10_at bytes ≡ Some p
+pub p10_again : (bytes : List ℕ) (p : P10Form) → IsP10 bytes p → p10_at bytes ≡ Some p
 unfolding p10_at
 p10_again bytes p is = ap (sole_with p10_inside_at 0x30) is.alone.spelled ∙ p10_law.again p (is.fits, is.alone.counted)
 

@@ -138,14 +138,14 @@ crmf_by bytes list p row t is e = record {
   shown = sym e ∙ ap shown_row is.shown ∙ shown_first is.entries;
 }
 
-crmf_takes : (bytes : List ℕ) (list : RowForm ReqForm) → crmf_at bytes ≡ Some list → IsCrmf bytes list
+pub crmf_takes : (bytes : List ℕ) (list : RowForm ReqForm) → crmf_at bytes ≡ Some list → IsCrmf bytes list
 unfolding crmf_at
 crmf_takes bytes list e =
     bound (IsCrmf bytes list) (sole_at 0x30 bytes) _ list e (λ p read e1.
     bound (IsCrmf bytes list) (row_at message_at 0x30 p.content) (λ (row : RowForm MessageForm). Some (shown_row row)) list e1 (λ row got last.
     crmf_by bytes list p row (sole_takes 0x30 bytes p read) (row_takes message_is_read 0x30 p.content row got) (some_same (shown_row row) list last)))
 
-crmf_again : (bytes : List ℕ) (list : RowForm ReqForm) → IsCrmf bytes list → crmf_at bytes ≡ Some list
+pub crmf_again : (bytes : List ℕ) (list : RowForm ReqForm) → IsCrmf bytes list → crmf_at bytes ≡ Some list
 unfolding crmf_at
 crmf_again bytes list is =
     let content : List ℕ = entries_spelling 0x30 message_content is.messages in

@@ -1,9 +1,9 @@
--- the fields fit their length
-use Rattle.std.proofs.Common.{ℕ, ◌^◌, ◌<◌, length, arith}
-use Rattle.pki_header.proofs.PlanLemmas.{fields_counted}
+-- what was written is read again
+use Rattle.pki_header.proofs.PlanLemmas.{header_result, header_size}
 use Rattle.pki_header.proofs.plan.write_header.Goals as goal
 
-pub wrap-requires-clause-counted : goal.wrap-requires-clause-counted
-wrap-requires-clause-counted c =
-    let h : length c.put_fields.new.writer < 2 ^ 32 = fields_counted c.args.plan.now c.in_ok-text.text c.new-writer.result c.put_fields.new.writer c.new-writer.ensures c.in_ok-put_fields.ensures c.in_ok-text.ensures.short c.requires.counted in
-    omega (arith, h)
+pub returns-clause-size : goal.returns-clause-size
+returns-clause-size c = header_size c.header_written.result c.args.plan.now c.header_written.ensures
+
+pub returns-clause-again : goal.returns-clause-again
+returns-clause-again c = header_result c.header_written.result c.args.plan.now c.requires.counted c.header_written.ensures
