@@ -1,0 +1,4 @@
+pub mod Body
+pub mod Frame
+pub mod Message
+pub mod Written
