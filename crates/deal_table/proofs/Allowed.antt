@@ -156,7 +156,7 @@ timely before [] a = omega arith
 timely before (c ∷ []) a = a.0.bounded
 timely before (c ∷ d ∷ cs) a = timely (before ++ c ∷ []) (d ∷ cs) a.1
 
-event_timely : (h : History) (now : ℕ) → Legal h → now ≤ 250000000000 → event_time h now ≤ 250000000000
+pub event_timely : (h : History) (now : ℕ) → Legal h → now ≤ 250000000000 → event_time h now ≤ 250000000000
 event_timely h now legal n = let last : time_of h ≤ 250000000000 = timely [] h legal.1 in omega arith
 
 not_empty : (h : History) → Legal h → false ≡ is_empty h

@@ -16,9 +16,10 @@ use Rattle.deal_changes.specs.Spelling.{IsShort, IsWho, IsCredential}
 use Rattle.deal_model.specs.declared.states.Owner.{Owner}
 use Rattle.deal_model.specs.Keys.{leaves_by_code, leaves_of, tree_of, key_id, key_of, is_lms_key}
 use Rattle.deal_model.specs.Views.{History, same, same_kind, is_entry, owner_of_credential, owner_in, has_owner, owner_of}
-use Rattle.deal_model.specs.Rules.{Legal, IsNamed, AreNew}
+use Rattle.deal_model.specs.Rules.{Legal, Allowed, IsNamed, AreNew}
 use Rattle.deal_model.proofs.Histories.{allowed_at}
-use Rattle.deal_table.specs.History.{owner_for}
+use Rattle.deal_table.specs.History.{IsFounded, owner_for}
+use Rattle.deal_table.proofs.Rows.{false_true}
 use Rattle.deal_table.proofs.Senders.{found_place, found_is, view_found, map_found, both, same_is, some_if}
 
 -- ---- whoever sent
@@ -136,3 +137,23 @@ nobody h (Some kind) legal = by_owner (owner_of h kind []) refl
         let given = view_found (owner_in kind []) (find (has_owner kind []) h) o e in
         let place = found_place (has_owner kind []) h given.0 given.1 in
         absurd (owner_named h kind o given.0 place.0 legal place.1 given.2)
+
+-- ---- the service was founded
+
+first_founds : (c : Change) (h : History) → Allowed [] c → IsFounded (c ∷ h)
+first_founds (Found s) h a = (s, refl, a.form.is_ca_name)
+first_founds (Enlist time list) h a = false_true _ a.opening
+first_founds (Dismiss time w) h a = false_true _ a.opening
+first_founds (Grant s b w serial leaf) h a = false_true _ a.opening
+first_founds (Hold s b w) h a = false_true _ a.opening
+first_founds (Release time id) h a = false_true _ a.opening
+first_founds (Deny time id) h a = false_true _ a.opening
+first_founds (Turned s) h a = false_true _ a.opening
+first_founds (Polled s) h a = false_true _ a.opening
+first_founds (Settled s accepted) h a = false_true _ a.opening
+first_founds (Revoke s n reason) h a = false_true _ a.opening
+first_founds (Lapse time id) h a = false_true _ a.opening
+
+pub legal_founded : (h : History) → Legal h → IsFounded h
+legal_founded [] legal = absurd (legal.0 refl)
+legal_founded (c ∷ h) legal = first_founds c h legal.1.0

@@ -14,7 +14,7 @@ use Rattle.deal_model.specs.declared.states.Standing.TheVariants.{Good}
 use Rattle.deal_table.specs.Looked.{IsAskOf, IsRefusedByLook, looked_to}
 use Rattle.deal_table.specs.declared.look.Look.{Look}
 use Rattle.deal_table.specs.declared.fail.FailInfo.{FailInfo}
-use Rattle.deal_table.specs.History.{Receipted, secret_of, Begins, name_of, look_of, deal_of, place_of, owner_for, event_time, receipt_at, grant_receipt}
+use Rattle.deal_table.specs.History.{Receipted, IsFounded, secret_of, Begins, name_of, look_of, deal_of, place_of, owner_for, event_time, receipt_at, grant_receipt}
 use Rattle.deal_table.specs.Message.{Compares, FitsMessage, Letter, subject_of, blind}
 use Rattle.deal_table.specs.Table.{To, Decision, is_unused, is_deal, Makes, Refuses, Asks, decision}
 use Rattle.deal_table.specs.Served.{decision_so_far, IsServedSoFar}
@@ -110,6 +110,14 @@ LeftMakesTheAllowed = (h : History) (k : Checked) (now : ℕ) (w : List ℕ) (c 
     → Allowed h c × (time_of_change c ≡ event_time h now)
 
 -- ---- what legal histories say
+
+-- the service was founded, under a name that is one common name
+abbrev pub LegalIsFounded : Type 0
+LegalIsFounded = (h : History) → Legal h → IsFounded h
+
+-- the time of an event is one that a clock may say
+abbrev pub EventsAreTimely : Type 0
+EventsAreTimely = (h : History) (now : ℕ) → Legal h → now ≤ 250000000000 → event_time h now ≤ 250000000000
 
 -- nobody has the empty identifier, as which an absent senderKID is read
 abbrev pub NobodyIsUnnamed : Type 0

@@ -1,5 +1,5 @@
 //! Laws of the table, each the contract of a function that does nothing.
-ghost use Rattle.deal_table.specs.Laws.{SettingsStay, OwnersStay, FirstsStay, PlacesStay, ReceiptsStay, GrantReceiptsStay, LeftAnswers, LeftAsks, IsDecidedByTheRest, DecidesOrAsks, RefusesToTheCarried, ComparedNeverAsks, DecidesByTheTime, LookRefuses, RefusesToTheLooked, LookTellsTheOwner, LookTellsTheOuterOwner, MakesTheAllowed, LeftMakesTheAllowed, UnusedHasNoChange, DealHasGrantOrHold, NobodyIsUnnamed, SecretIsTheOwners, ServedIsWhole};
+ghost use Rattle.deal_table.specs.Laws.{SettingsStay, OwnersStay, FirstsStay, PlacesStay, ReceiptsStay, GrantReceiptsStay, LeftAnswers, LeftAsks, IsDecidedByTheRest, DecidesOrAsks, RefusesToTheCarried, ComparedNeverAsks, DecidesByTheTime, LookRefuses, RefusesToTheLooked, LookTellsTheOwner, LookTellsTheOuterOwner, MakesTheAllowed, LeftMakesTheAllowed, UnusedHasNoChange, DealHasGrantOrHold, LegalIsFounded, EventsAreTimely, NobodyIsUnnamed, SecretIsTheOwners, ServedIsWhole};
 
 /// What a history has settled stands in each later one: what the service was founded with; to whom a credential belongs; the
 /// first change of any sort, and its place; what the reply to a change needs.
@@ -42,11 +42,13 @@ pub fn what_is_made_is_allowed()
 {}
 
 /// What the rows say of a legal history: a transaction is unused exactly where no change has its transactionID; a request began
-/// it exactly where a Grant or a Hold has it; where the senderKID is absent nobody is known; and what protects a reply is the
-/// secret or key of its sender's credential.
+/// it exactly where a Grant or a Hold has it; the service was founded; an event's time is one that a clock may say; where the
+/// senderKID is absent nobody is known; and what protects a reply is the secret or key of its sender's credential.
 pub fn what_legal_histories_say()
     ensures unused { UnusedHasNoChange }
     ensures deal { DealHasGrantOrHold }
+    ensures founded { LegalIsFounded }
+    ensures time { EventsAreTimely }
     ensures nobody { NobodyIsUnnamed }
     ensures secret { SecretIsTheOwners }
 {}
