@@ -1,5 +1,5 @@
 #!/usr/bin/env bash
-# Builds cmpca and shows its answers: one message that verifies, and one refusal of each kind.
+# Builds cmpca and shows its answers: one message that verifies, one refusal of each kind, and a journal.
 # Safe to run twice; nothing is left behind. Ends with status 1 where an answer isn't the one told.
 set -euo pipefail
 
@@ -66,5 +66,20 @@ show "With a messageTime, a field that isn't read yet" \
     "308192$later$body$protection$mac" "refused later form" 1 verify $secret
 show "A secret of 4 octets" \
     "" "usage: cmpca verify SECRET | JOURNAL KEY COMMAND" 2 verify 4a656665
+
+# The journal of an enrolled device, laid out by Python since no command founds one yet
+journal=$(python3 "$top/tests/vectors/journal_vectors.py" | sed -n 's/^journal //p')
+folder=$(mktemp -d)
+trap 'rm -rf "$folder"' EXIT
+cd "$folder"
+octets "$journal" >journal
+show "A device that is enrolled" "" "changes 4
+issue 3 of 32
+reply 0 of 32
+cert 3 confirmed 000102030405060708090a0b0c0d0e0f" 0 journal key show
+octets "${journal%00}01ffffffff" >journal
+show "A record that isn't whole behind its last one" "" "damaged at 660" 7 journal key show
+octets "${journal:0:16}" >journal
+show "A file of eight octets" "" "not founded" 8 journal key show
 
 exit $failed

@@ -17,6 +17,7 @@ python3 "$here/change_vectors.py" >"$out/changes.txt"
 python3 "$here/history_vectors.py" >"$out/histories.txt"
 python3 "$here/rule_vectors.py" >"$out/rules.txt"
 python3 "$here/lines_vectors.py" >"$out/lines.txt"
+python3 "$here/journal_vectors.py" >"$out/journals.txt"
 python3 "$here/near_certs.py" >"$out/near_certs.txt"
 python3 "$here/neighbours.py" >"$out/neighbours.txt"
 if command -v openssl >/dev/null; then

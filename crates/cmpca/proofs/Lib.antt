@@ -1,3 +1,4 @@
 pub mod RunLemmas
 pub mod MacLemmas
 pub mod CauseLemmas
+pub mod ShowLemmas

@@ -1,6 +1,15 @@
 //! How a run of the program ends.
 ghost use Rattle.std.specs.Prelude.{◌≡◌};
 
+/// By what an authority is known: the identifier and the root of each of its trees, in the first octets of an array.
+#[derive(Clone, Copy, Debug, PartialEq, Eq)]
+pub struct Identity {
+    /// The octets, and zeros behind them.
+    pub octets: [u8; 96],
+    /// How many they are.
+    pub length: u8,
+}
+
 /// How a run ends. Each cause has its number, which is the status of the process.
 #[derive(Clone, Copy, Debug, PartialEq, Eq)]
 pub enum Status {
@@ -10,12 +19,30 @@ pub enum Status {
     Refused,
     /// The words are of no form.
     Usage,
-    /// The input failed.
+    /// The input failed, or the key file, or the entropy.
     ReadFault,
     /// The output failed.
     WriteFault,
+    /// The disk failed.
+    DiskFault,
     /// Memory ran out.
     NoMemory,
+    /// The disk is founded, and no legal history recovers from it.
+    Damaged {
+        /// The offset in octets at which its log is damaged.
+        at: u64,
+    },
+    /// The disk is not founded.
+    NotFounded,
+    /// The key file is that of another authority than the disk's.
+    KeyMismatch {
+        /// The identity of the key file.
+        file: Identity,
+        /// The identity that the journal was founded with.
+        journal: Identity,
+    },
+    /// The key file is of no form.
+    BadKeyFile,
 }
 
 impl Status {
@@ -31,7 +58,12 @@ impl Status {
             Status::Usage => 2,
             Status::ReadFault => 3,
             Status::WriteFault => 4,
+            Status::DiskFault => 5,
             Status::NoMemory => 6,
+            Status::Damaged { .. } => 7,
+            Status::NotFounded => 8,
+            Status::KeyMismatch { .. } => 9,
+            Status::BadKeyFile => 10,
         }
     }
 }

@@ -1,12 +1,14 @@
-//! The program over streams in memory: one message that verifies and each refusal, the words, and failing streams.
+//! The program over objects in memory: one message that verifies and each refusal, the words, and failing streams.
 //!
 //! The messages are made from X.690, RFC 9810 and RFC 8018 by hand, and their MACs by Python's `hashlib` and `hmac`
 //! (`hashlib.pbkdf2_hmac('sha256', b'secret-1', salt, 1)` as the key, and `hmac.new(key, part, 'sha256')`, where part is
 //! the SEQUENCE of header and body).
 
+mod show;
+
 use crate::status::Status;
 use crate::tool::run_tool;
-use cmp_ports::{MemSink, MemSource};
+use cmp_ports::{ListClock, ListEntropy, MemDisk, MemSink, MemSource};
 use std::alloc::Global;
 use std::process::Abort;
 use std::test::Fail;
@@ -53,7 +55,31 @@ fn words(alloc: Global, texts: &[&str]) -> Result<Vec<String>, Fail> {
     Ok(words)
 }
 
-/// Runs the program over a message in hex.
+/// Runs the program over an input and a disk, with nothing in the key file.
+fn run(
+    alloc: Global,
+    texts: &[&str],
+    input: &mut MemSource,
+    disk: &mut MemDisk,
+    out: &mut MemSink,
+) -> Result<Status, Fail> {
+    let words = words(alloc, texts)?;
+    let mut key = MemSource::new(Vec::new(alloc));
+    let mut clock = ListClock::new(Vec::new(alloc));
+    let mut entropy = ListEntropy::new(Vec::new(alloc));
+    Ok(run_tool(
+        alloc,
+        &words,
+        &mut key,
+        input,
+        disk,
+        &mut clock,
+        &mut entropy,
+        out,
+    ))
+}
+
+/// Runs the program over a message in hex, with an empty disk.
 fn check_run(
     rt: &impl Abort,
     alloc: Global,
@@ -63,8 +89,9 @@ fn check_run(
     text: &str,
 ) -> Result<(), Fail> {
     let mut input = MemSource::new(hex::decode(alloc, message)?);
+    let mut disk = MemDisk::new(Vec::new(alloc));
     let mut out = MemSink::new(alloc);
-    let ended = run_tool(alloc, &words(alloc, texts)?, &mut input, &mut out);
+    let ended = run(alloc, texts, &mut input, &mut disk, &mut out)?;
     assert_eq!(rt; out.written(), text.as_bytes());
     assert_eq!(rt; ended, status);
     Ok(())
@@ -107,23 +134,27 @@ fn words_of_no_form_are_usage(rt: HostRuntime) -> Result<(), Fail> {
     ] {
         check_run(&rt, rt.alloc(), &texts, VERIFIED, Status::Usage, usage)?;
     }
+    for texts in [["journal", "key", "init"], ["journal", "key", "Show"]] {
+        check_run(&rt, rt.alloc(), &texts, VERIFIED, Status::Usage, usage)?;
+    }
     Ok(())
 }
 
 #[test]
 fn failing_streams_have_their_status(rt: HostRuntime) -> Result<(), Fail> {
     let alloc = rt.alloc();
-    let asked = words(alloc, &["verify", "7365637265742D31"])?;
+    let asked = ["verify", "7365637265742D31"];
     let message = hex::decode(alloc, VERIFIED)?;
+    let mut disk = MemDisk::new(Vec::new(alloc));
     let mut input = MemSource::failing(message.clone()?, vec![in alloc; 2]?);
     let mut out = MemSink::new(alloc);
-    let ended = run_tool(alloc, &asked, &mut input, &mut out);
+    let ended = run(alloc, &asked, &mut input, &mut disk, &mut out)?;
     assert_eq!(rt; ended, Status::ReadFault);
     assert_eq!(rt; out.written(), b"read fault\n".as_slice());
 
     let mut input = MemSource::new(message);
     let mut out = MemSink::failing(alloc, vec![in alloc; 1]?);
-    let ended = run_tool(alloc, &asked, &mut input, &mut out);
+    let ended = run(alloc, &asked, &mut input, &mut disk, &mut out)?;
     assert_eq!(rt; ended, Status::WriteFault);
     Ok(())
 }

@@ -1,6 +1,6 @@
 //! The words of the command line.
 ghost use Rattle.std.specs.Prelude.{◌≡◌, map, string_bytes};
-ghost use Rattle.cmpca.specs.Words.{asked_secret, secret_of};
+ghost use Rattle.cmpca.specs.Words.{command_of, verify_of, secret_of};
 
 use cmp_ports::Short;
 
@@ -9,13 +9,36 @@ const SECRET_LEAST: usize = 8;
 
 const SECRET_MOST: usize = 64;
 
-/// The secret of the words `verify SECRET`. `None` where the words are of no form.
-pub fn read_words(words: &[String]) -> Option<Short>
-    ensures { result ≡ asked_secret (map string_bytes words.now) }
+/// What the words ask for.
+#[derive(Clone, Copy)]
+pub enum Command {
+    /// To check the protection of a message under this secret.
+    Verify {
+        /// 8 to 64 octets.
+        secret: Short,
+    },
+    /// To tell how the history of a journal stands.
+    Show,
+}
+
+/// What the words ask for. `None` where they are of no form.
+pub fn read_words(words: &[String]) -> Option<Command>
+    ensures { result ≡ command_of (map string_bytes words.now) }
 {
     match words {
-        [verb, secret] if verb.as_str() == "verify" => read_secret(secret.as_str()),
+        [verb, secret] if verb.as_str() == "verify" => read_verify(secret.as_str()),
+        [_, _, verb] if verb.as_str() == "show" => Some(Command::Show),
         _ => None,
+    }
+}
+
+/// To verify under a secret of these digits.
+fn read_verify(digits: &str) -> Option<Command>
+    ensures { result ≡ verify_of (secret_of digits.now) }
+{
+    match read_secret(digits) {
+        Some(secret) => Some(Command::Verify { secret }),
+        None => None,
     }
 }
 
