@@ -1,5 +1,5 @@
 -- Messages over small histories, decided by computing, so that a wrong row doesn't check.
-use Rattle.std.proofs.Common.{◌≡◌, ℕ, Bool, true, false, List, [], ◌∷◌, ◌++◌, Option, Some, None, refl}
+use Rattle.std.proofs.Common.{Bor, sym, ap, ◌≡◌, ℕ, Bool, true, false, List, [], ◌∷◌, ◌++◌, Option, Some, None, refl}
 use Rattle.std.specs.Prelude.{replicate}
 use Rattle.deal_changes.specs.declared.change.Kind.TheVariants.{Mac, Lms}
 use Rattle.deal_changes.specs.declared.change.Who.TheVariants.{Listed, Cert}
@@ -11,11 +11,17 @@ use Rattle.deal_changes.specs.declared.change.Stamp.{Stamp}
 use Rattle.deal_changes.specs.declared.change.Wish.{Wish}
 use Rattle.deal_changes.specs.declared.change.Change.TheVariants.{Found, Enlist, Dismiss, Grant, Hold, Release, Deny, Turned, Polled, Settled, Revoke, Lapse}
 use Rattle.deal_changes.specs.Spelling.{u16, u32, u64}
+use Rattle.deal_changes.specs.Spki.{is_ca_name}
+use Rattle.deal_model.specs.declared.asking.Job.TheVariants.{Enrol}
+use Rattle.deal_model.specs.declared.asking.Checked.{Checked}
+use Rattle.deal_model.specs.declared.states.Owner.{Owner}
+use Rattle.deal_table.specs.Carry.{Carries}
 use Rattle.deal_model.specs.Keys.{tree_of, leaves_of, key_id, key_of, is_lms_key}
 use Rattle.deal_model.specs.Views.{History, same, owner_of, standing_of, at_first, after_lapse, after_settled, after_revoke, certificate_state, after_grant, transaction_state, last_nonce, leaves_used}
 use Rattle.deal_table.specs.declared.fail.FailInfo.TheVariants.{BadAlg, BadMessageCheck, BadRequest, BadTime, BadCertId, BadDataFormat, BadPop, CertRevoked, CertConfirmed, WrongIntegrity, BadRecipientNonce, BadSenderNonce, BadCertTemplate, SignerNotTrusted, TransactionIdInUse, UnsupportedVersion, NotAuthorized, SystemUnavail, DuplicateCertReq}
 use Rattle.deal_table.specs.History.{place_of_digest, deal_of, receipt_at, grant_receipt}
 use Rattle.deal_table.specs.Message.{Zero, MinusOne, OtherId, Named, Enrolment, Confirmation, Polling, Withdrawal, Body, Enrols, Confirms, Polls, Withdraws, Nests, OtherBody, Header, Facts, Letter}
+use Rattle.deal_table.specs.Served.{decision_so_far}
 use Rattle.deal_table.specs.Table.{To, Decision, Makes, Repeats, Refuses, Asks, decision}
 
 -- ---- a service with four credentials
@@ -533,3 +539,82 @@ over is = rw (is.0, is.1) (rw (is.0, is.1) refl)
 revokes_itself : IsEleven → decided (certified settings true) (record (update None) { body = Withdraws withdrawal }) ≡ Makes (Revoke update_stamp 3 4)
 unfolding decided
 revokes_itself is = rw (is.0, is.1) (rw (is.0, is.1) refl)
+
+-- ---- what is served so far
+
+served : History → Letter → Decision
+unfolding place_of_digest deal_of receipt_at grant_receipt owner_of standing_of at_first after_lapse after_settled after_revoke certificate_state after_grant transaction_state last_nonce leaves_used leaves_of tree_of u16 u32 u64
+served h l = decision_so_far h l 1000 words
+
+alone : Facts → Letter
+alone m = record { message = m; inner = m }
+
+kur_so_far : served service (alone (message 1 1 1 (Enrols (record request { body = Kur })))) ≡ Refuses BadRequest bare
+unfolding served alone
+kur_so_far = refl
+
+poll_so_far : served (held Cr) (alone (message 2 1 3 (Polls poll))) ≡ Refuses BadRequest bare
+unfolding served alone
+poll_so_far = refl
+
+rr_so_far : served (settled true) (alone (message 5 5 1 (Withdraws withdrawal))) ≡ Refuses BadRequest bare
+unfolding served alone
+rr_so_far = refl
+
+nested_so_far : served service (record { message = message 0 0 2 (Nests 1); inner = message 1 1 1 (Enrols request) }) ≡ Refuses BadRequest bare
+unfolding served
+nested_so_far = refl
+
+hold_so_far : served service (alone (message 1 1 3 (Enrols request))) ≡ Refuses NotAuthorized (guarded 3)
+unfolding served alone
+hold_so_far = refl
+
+two_so_far : served service (alone (message 1 1 3 (Enrols (record request { is_one = false })))) ≡ Refuses BadRequest (guarded 3)
+unfolding served alone
+two_so_far = refl
+
+granted_so_far : IsNew key → served service (alone (message 1 1 1 (Enrols request))) ≡ Makes (Grant (stamp 1 1 1 1000) Ir wish 3 2)
+unfolding served alone
+granted_so_far new = rw new refl
+
+confirmed_so_far : served (opened 901) (alone (message 2 1 1 (Confirms accepting))) ≡ Makes (Settled (stamp 2 1 1 1000) true)
+unfolding served alone
+confirmed_so_far = refl
+
+-- ---- what was checked carries a message
+
+-- the service under this name
+abbrev named : List ℕ → History
+named n = Found (record settings { name = n }) ∷ Enlist 10 (listed 1 1 ∷ []) ∷ []
+
+-- what is made of the request of 1
+abbrev checked : Bor (List ℕ) → Checked
+checked sender = record {
+  ask = record { digest = 1 ∷ []; tid = 1 ∷ []; kind = Some Mac; kid = 1 ∷ []; outer = None };
+  who = Listed Mac (1 ∷ []);
+  key = 1 ∷ 1 ∷ [];
+  message_time = Some 1000;
+  job = Enrol Ir wish None;
+  echo = record { pvno = 2; sender = sender; tid = Some (1 ∷ []); nonce = Some (replicate 16 3) };
+  recip_nonce = Some nonce;
+  proven = true;
+  minus_one = false;
+  hash_ok = None;
+  outer_time = None;
+  outer_key = None;
+}
+
+abbrev owner : Owner
+owner = record { who = Listed Mac (1 ∷ []); key = 1 ∷ 1 ∷ []; rights = 1 }
+
+carried : (n : List ℕ) (sender : Bor (List ℕ)) → is_ca_name n ≡ true → sender.now ≡ 4 ∷ [] → Carries (alone (message 1 1 1 (Enrols request))) (checked sender) (named n)
+unfolding owner_of alone
+carried n sender name same_sender = record {
+  founded = (record settings { name = n }, refl, name);
+  outside = record { form = refl; header = refl };
+  readable = record { form = refl; header = refl };
+  digest = refl;
+  header = ap (λ (s : List ℕ). record (message 1 1 1 OtherBody).header { sender = s }) (sym same_sender);
+  inside = refl;
+  job = record { owner = owner; protection = record { stands = refl; protected = refl; verified = refl }; key = refl; sender = refl; job = (refl, refl, refl, refl) };
+}
