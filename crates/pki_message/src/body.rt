@@ -23,27 +23,44 @@ use pki_parts::{
 };
 use req_forms::{CrmfList, P10, read_crmf, read_p10};
 
-/// The body of a message (RFC 9810, 5.1.2). Of nested messages and of general messages it is the content of their SEQUENCE. A body
-/// of another tag, which it is the number of, is not looked into.
+/// The body of a message (RFC 9810, 5.1.2 and 5.3). Of nested messages and of general messages it is the content of their SEQUENCE.
 #[derive(Clone, Copy, Debug)]
 pub enum Body<'a> {
+    /// An initialization request (5.3.1).
     Ir(CrmfList<'a>),
+    /// An initialization response (5.3.2).
     Ip(CertRep<'a>),
+    /// A certification request (5.3.3).
     Cr(CrmfList<'a>),
+    /// A certification response (5.3.4).
     Cp(CertRep<'a>),
+    /// A certification request of PKCS #10 (5.3.3).
     P10cr(P10<'a>),
+    /// A key update request (5.3.5).
     Kur(CrmfList<'a>),
+    /// A key update response (5.3.6).
     Kup(CertRep<'a>),
+    /// A revocation request (5.3.9).
     Rr(RevReq<'a>),
+    /// A revocation response (5.3.10).
     Rp(RevRep<'a>),
+    /// A confirmation without content (5.3.17).
     PkiConf,
+    /// Messages, one or more, which are not looked into (5.1.3.5).
     Nested(&'a [u8]),
+    /// A general message (5.3.19).
     Genm(&'a [u8]),
+    /// A general response (5.3.20).
     Genp(&'a [u8]),
+    /// An error message (5.3.21).
     Error(ErrorMsg<'a>),
+    /// A confirmation of certificates (5.3.18).
     CertConf(CertConfirm<'a>),
+    /// A poll for what is not there yet (5.3.22).
     PollReq(PollReq<'a>),
+    /// An answer to a poll (5.3.22).
     PollRep(PollRep<'a>),
+    /// A body that is not looked into, by the number of its tag.
     Other(u8),
 }
 
