@@ -18,6 +18,7 @@ python3 "$here/history_vectors.py" >"$out/histories.txt"
 python3 "$here/rule_vectors.py" >"$out/rules.txt"
 python3 "$here/lines_vectors.py" >"$out/lines.txt"
 python3 "$here/journal_vectors.py" >"$out/journals.txt"
+python3 "$here/log_vectors.py" >"$out/logs.txt"
 python3 "$here/near_certs.py" >"$out/near_certs.txt"
 python3 "$here/neighbours.py" >"$out/neighbours.txt"
 if command -v openssl >/dev/null; then
@@ -26,8 +27,8 @@ if command -v openssl >/dev/null; then
 else
     echo "skipped: openssl_certs.txt and pkcs10.txt (no openssl)"
 fi
-echo "hmac.txt, frames.txt, frame.der, changes.txt, histories.txt, rules.txt, lines.txt, near_certs.txt and"
-echo "neighbours.txt are made"
+echo "hmac.txt, frames.txt, frame.der, changes.txt, histories.txt, rules.txt, lines.txt, logs.txt, near_certs.txt"
+echo "and neighbours.txt are made"
 
 jars=${BCJARS:-/usr/share/java}
 path=$jars/bcprov.jar:$jars/bcutil.jar

@@ -11,7 +11,7 @@ use Rattle.deal_changes.specs.Spelling.{spelling}
 use Rattle.deal_model.specs.Views.{History}
 use Rattle.deal_model.specs.Rules.{Allowed, Legal}
 use Rattle.desk.specs.Images.{magic, Keeps}
-use Rattle.desk.specs.Mounted.{IsBegun}
+use Rattle.desk.specs.Founded.{IsBegun}
 
 and_false : (a b : Bool) → b ≡ false → (a && b) ≡ false
 and_false true b e = e

@@ -4,6 +4,5 @@ pub mod LawfulLemmas
 pub mod AddLemmas
 pub mod FitLemmas
 pub mod FoundLemmas
-pub mod FirstLemmas
 pub mod ListLemmas
 pub mod MountLemmas

@@ -1,7 +1,6 @@
 -- What may be dismissed and listed may come next.
-use Rattle.std.proofs.Common.{◌≡◌, ⊎_elim, ℕ, ◌≤◌, ◌^◌, Bool, true, false, List, [], ◌∷◌, ◌++◌, length, take, Option, refl, sym, ◌∙◌, ap, subst, arith}
+use Rattle.std.proofs.Common.{◌≡◌, ⊎_elim, ℕ, ◌≤◌, Bool, true, false, List, [], ◌∷◌, ◌++◌, length, Option, refl, sym, ◌∙◌, ap, subst, arith}
 use Rattle.std.specs.List.{list_any, AllByRecursion}
-use Rattle.std.specs.Prelude.{◌&&◌}
 use Rattle.std.proofs.Math.Logic.{∥∥₁_elim}
 use Rattle.std.proofs.Math.Nat.{le-max_right}
 use Rattle.std.proofs.Props.{props}
@@ -22,10 +21,9 @@ use Rattle.deal_model.specs.Views.{History, time_of, same, same_kind, is_entry, 
 use Rattle.deal_model.specs.Rules.{IsNamed, AreNew, Allowed, AllowedFrom, Legal}
 use Rattle.desk.specs.declared.answers.Added.{Added}
 use Rattle.desk.specs.declared.answers.Added.TheVariants.{Done, Full, DiskFault, NoMemory}
-use Rattle.desk.specs.declared.answers.Listing.TheVariants as Listing
 use Rattle.desk.specs.Due.{event_time}
 use Rattle.desk.specs.Calls.{Fits, IsAdded}
-use Rattle.desk.specs.Listings.{listing_end, CanDismiss, IsDismissed, AreFit, is_used, AreFree, IsEnlisted}
+use Rattle.desk.specs.Listings.{listing_end, CanDismiss, IsDismissed, AreFit, AreFree, IsEnlisted}
 use Rattle.desk.proofs.LawfulLemmas.{some_out}
 use Rattle.desk.proofs.FitLemmas.{event_bound}
 

@@ -2,5 +2,5 @@ pub mod Images
 pub mod Due
 pub mod Calls
 pub mod Listings
-pub mod Mounted
+pub mod Founded
 pub mod Mounts

@@ -7,7 +7,7 @@ ghost use Rattle.journal_core.specs.Journal.{IsAtRest};
 ghost use Rattle.deal_changes.specs.Spelling.{spelling, IsWriteable};
 ghost use Rattle.deal_model.specs.Rules.{Allowed};
 ghost use Rattle.desk.specs.Images.{magic};
-ghost use Rattle.desk.specs.Mounted.{founding, IsPrepared, IsBegun};
+ghost use Rattle.desk.specs.Founded.{founding, IsPrepared, IsBegun};
 
 use crate::answers::FoundFault;
 use crate::desk::Desk;

@@ -10,8 +10,6 @@ mod lapsing;
 mod listing;
 mod mounting;
 mod ordering;
-#[cfg(test)]
-mod tests;
 
 pub use answers::{FoundFault, Lapsed, Listing, Ordered};
 pub use desk::Desk;

@@ -1,5 +1,5 @@
 use Rattle.cmp_ports.specs.Moments.{weaker, joins}
-use Rattle.desk.specs.Mounted.{IsBegun}
+use Rattle.desk.specs.Founded.{IsBegun}
 use Rattle.desk.proofs.FoundLemmas.{prepared_left, begun_left}
 use Rattle.desk.proofs.founding.begin.Goals as goal
 

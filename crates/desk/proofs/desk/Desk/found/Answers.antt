@@ -1,5 +1,5 @@
 use Rattle.desk.proofs.LawfulLemmas.{writeable}
-use Rattle.desk.specs.Mounted.{founding}
+use Rattle.desk.specs.Founded.{founding}
 use Rattle.desk.proofs.desk.Desk.found.Goals as goal
 
 pub first_change-requires : goal.first_change-requires

@@ -1,13 +1,10 @@
-//! A service that is founded in memory, and a disk that fails.
-ghost use Rattle.std.specs.Prelude.{◌≡◌, length, IfOk};
-ghost use Rattle.desk.specs.Listings.{AreFit};
+ghost use Rattle.std.specs.Prelude.{◌≡◌, IfOk};
 ghost use Rattle.world_core.specs.Steps.{first_settings};
 
-mod mounting;
-
-use crate::{Desk, FoundFault, Lapsed, Listing, Ordered};
+use crate::logs::mounted;
 use cmp_ports::{MemDisk, Octets, Order, Short};
-use deal_model::{Credential, CredentialList, Kind, Settings};
+use deal_model::{Change, Settings};
+use desk::{Desk, FoundFault, Lapsed, Ordered};
 use std::alloc::{AllocError, Global};
 use std::test::Fail;
 
@@ -51,17 +48,30 @@ fn fault_of(found: Result<Desk<MemDisk>, (MemDisk, FoundFault)>) -> Option<Found
     }
 }
 
+fn is_first(change: &Change) -> bool {
+    match change {
+        Change::Found(settings) => {
+            settings.time == 0
+                && settings.name.as_slice() == NAME.as_slice()
+                && settings.issue_key == KEY
+        }
+        _ => false,
+    }
+}
+
 #[test]
 fn a_service_is_founded_once(rt: HostRuntime) -> Result<(), Fail> {
     let alloc = rt.alloc();
     let Ok(mut desk) = found(alloc, MemDisk::new(Vec::new(alloc)))? else {
-        assert!(rt; false);
-        return Ok(());
+        return Err("not founded")?;
     };
     assert_eq!(rt; desk.length(), 1);
     assert!(rt; desk.lapse(7) == Lapsed::Nothing);
     assert!(rt; desk.order(&Order::Release(Short::empty()), 7) == Ordered::NotHeld);
     assert!(rt; desk.order(&Order::Bad, 7) == Ordered::NotHeld);
+    let desk = mounted(alloc, desk.into_disk())?;
+    assert_eq!(rt; desk.length(), 1);
+    assert!(rt; is_first(desk.change_at(1)));
     let disk = desk.into_disk();
     // Eight octets, a gate, four octets of length, a change of 167, and a closed gate.
     assert_eq!(rt; disk.octets().len(), 181);
@@ -70,50 +80,11 @@ fn a_service_is_founded_once(rt: HostRuntime) -> Result<(), Fail> {
 }
 
 #[test]
-fn each_call_of_the_disk_may_fail(rt: HostRuntime) -> Result<(), Fail> {
+fn a_disk_that_fails_is_not_founded(rt: HostRuntime) -> Result<(), Fail> {
     let alloc = rt.alloc();
-    for number in 1..=9u64 {
-        let disk = MemDisk::failing(Vec::new(alloc), vec![in alloc; number]?);
+    for call in 1..=9u64 {
+        let disk = MemDisk::failing(Vec::new(alloc), vec![in alloc; call]?);
         assert!(rt; fault_of(found(alloc, disk)?) == Some(FoundFault::DiskFault));
     }
-    Ok(())
-}
-
-/// One reference, with the right to enrol.
-fn reference(alloc: Global) -> Result<CredentialList, AllocError>
-    ensures { IfOk result (λ list. AreFit list × (length list ≡ 1)) }
-{
-    let Some(kid) = Short::of(b"a") else {
-        unreachable!()
-    };
-    let Some(material) = Short::of(b"01234567") else {
-        unreachable!()
-    };
-    Ok(CredentialList::of(vec![in alloc;
-        Credential {
-            kind: Kind::Mac,
-            kid,
-            material,
-            rights: 1,
-        },
-    ]?))
-}
-
-#[test]
-fn a_credential_is_listed_and_dismissed_once(rt: HostRuntime) -> Result<(), Fail> {
-    let alloc = rt.alloc();
-    let Ok(mut desk) = found(alloc, MemDisk::new(Vec::new(alloc)))? else {
-        assert!(rt; false);
-        return Ok(());
-    };
-    let list = reference(alloc)?;
-    let kid = list.as_slice()[0].kid;
-    assert!(rt; desk.dismiss(Kind::Mac, &kid, 7) == Listing::Unknown);
-    assert!(rt; desk.enlist(&list, 7) == Listing::Done { place: 2 });
-    assert!(rt; desk.enlist(&list, 7) == Listing::InUse { index: 0 });
-    assert!(rt; desk.dismiss(Kind::Lms, &kid, 7) == Listing::Unknown);
-    assert!(rt; desk.dismiss(Kind::Mac, &kid, 7) == Listing::Done { place: 3 });
-    assert!(rt; desk.dismiss(Kind::Mac, &kid, 7) == Listing::Already);
-    assert!(rt; desk.enlist(&list, 7) == Listing::InUse { index: 0 });
     Ok(())
 }
