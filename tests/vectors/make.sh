@@ -27,8 +27,8 @@ if command -v openssl >/dev/null; then
 else
     echo "skipped: openssl_certs.txt and pkcs10.txt (no openssl)"
 fi
-echo "hmac.txt, frames.txt, frame.der, changes.txt, histories.txt, rules.txt, lines.txt, logs.txt, near_certs.txt"
-echo "and neighbours.txt are made"
+echo "hmac.txt, frames.txt, frame.der, changes.txt, histories.txt, rules.txt, lines.txt, journals.txt, logs.txt,"
+echo "near_certs.txt and neighbours.txt are made"
 
 jars=${BCJARS:-/usr/share/java}
 path=$jars/bcprov.jar:$jars/bcutil.jar
