@@ -22,7 +22,8 @@ pub(crate) fn is_grant(c: &Change) -> bool
     }
 }
 
-pub(crate) fn is_grant_for(tid: &[u8], c: &Change) -> bool
+/// Whether a change is the Grant of this transaction.
+pub fn is_grant_for(tid: &[u8], c: &Change) -> bool
     ensures { result ≡ is_grant_for tid.now c.now }
 {
     match c {
@@ -112,7 +113,8 @@ pub(crate) fn is_revoke_of(n: u64, c: &Change) -> bool
     }
 }
 
-pub(crate) fn has_digest(digest: &[u8; 32], c: &Change) -> bool
+/// Whether the message with this digest made a change.
+pub fn has_digest(digest: &[u8; 32], c: &Change) -> bool
     ensures { result ≡ has_digest digest.now c.now }
 {
     match c.stamp() {

@@ -13,6 +13,7 @@ mod tests;
 mod views;
 
 pub use keys::{is_lms_key, key_id, key_of, leaves_of, levels_of, ots_of, tree_of};
+pub use kinds::{has_digest, is_grant_for};
 pub use laws::owners_stay;
 pub use nonces::last_nonce;
 pub use standings::{not_after, owner_of, standing_of, standing_of_who};

@@ -6,3 +6,5 @@ pub mod FitLemmas
 pub mod FoundLemmas
 pub mod ListLemmas
 pub mod MountLemmas
+pub mod ReceiptLemmas
+pub mod LookLemmas

@@ -1,5 +1,5 @@
 //! Takes back the next certificate that wasn't confirmed in time.
-ghost use Rattle.std.specs.Prelude.{◌≡◌, ◌≤◌, MatchOption};
+ghost use Rattle.std.specs.Prelude.{◌≡◌, ◌≤◌, length, MatchOption};
 ghost use Rattle.cmp_ports.specs.Disk.{LeavesOnly};
 ghost use Rattle.cmp_ports.specs.Faults.{Rose};
 ghost use Rattle.deal_model.specs.Views.{AreTimely, is_empty, time_of};
@@ -61,10 +61,11 @@ fn lapse_end(added: Added, place: u64, tid: Short) -> Lapsed
 }
 
 impl<D: Disk> Desk<D> {
-    /// The changes, none of which is later than any clock may say.
+    /// The changes, none of which is later than any clock may say, and of which there are so many at most.
     pub(crate) fn changes(&self) -> &[Change]
         ensures value { result.now ≡ self.now.history.items }
         ensures timely { AreTimely result.now }
+        ensures bounded { length result.now ≤ 262144 }
     {
         self.history.as_slice()
     }

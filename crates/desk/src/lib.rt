@@ -3,15 +3,23 @@
 
 mod adding;
 mod answers;
+mod clerk;
 mod desk;
 mod due;
 mod founding;
 mod lapsing;
 mod listing;
+mod looking;
 mod mounting;
 mod ordering;
+mod places;
+mod receipt;
+mod verdict;
 
 pub use answers::{FoundFault, Lapsed, Listing, Ordered};
+pub use clerk::Clerk;
 pub use desk::Desk;
 pub use journal_core::MountFault;
 pub use mounting::history_on;
+pub use receipt::Receipt;
+pub use verdict::Verdict;

@@ -1,0 +1,42 @@
+-- What a clerk's calls do to the history as it has seen it, and which places are its own.
+use Rattle.std.specs.Prelude.{ℕ, List, [], ◌∷◌, Option}
+use Rattle.cmp_ports.specs.declared.order.Order.{Order}
+use Rattle.deal_changes.specs.declared.change.Change.{Change}
+use Rattle.deal_model.specs.Views.{History}
+use Rattle.deal_table.specs.History.{Begins, event_time}
+use Rattle.desk.specs.declared.answers.Lapsed.{Lapsed}
+use Rattle.desk.specs.declared.answers.Lapsed.TheVariants as lapsed
+use Rattle.desk.specs.declared.answers.Ordered.{Ordered}
+use Rattle.desk.specs.declared.answers.Ordered.TheVariants as ordered
+use Rattle.desk.specs.declared.verdict.Verdict.{Verdict}
+use Rattle.desk.specs.declared.verdict.Verdict.TheVariants as verdict
+use Rattle.desk.specs.Calls.{IsLapsed, IsOrdered}
+
+-- the place of the change that was made, where one was
+abbrev pub decided_place : Verdict → List ℕ
+decided_place (verdict.Done r) = r.place ∷ []
+decided_place _ = []
+
+abbrev pub lapsed_place : Lapsed → List ℕ
+lapsed_place (lapsed.Done place tid) = place ∷ []
+lapsed_place _ = []
+
+abbrev pub ordered_place : Ordered → List ℕ
+ordered_place (ordered.Done place) = place ∷ []
+ordered_place _ = []
+
+-- a desk's lapse over a history that begins with what the clerk had seen
+pub record IsLapsedSince (old new : History) (now : ℕ) (end : Lapsed) : Type 0 where
+  pub before : History
+  pub begun : Begins old before
+  pub doubt : Option Change
+  pub left : Option Change
+  pub lapsed : IsLapsed before doubt (event_time before now) end new left
+
+-- a desk's order over a history that begins with what the clerk had seen
+pub record IsOrderedSince (old new : History) (order : Order) (now : ℕ) (end : Ordered) : Type 0 where
+  pub before : History
+  pub begun : Begins old before
+  pub doubt : Option Change
+  pub left : Option Change
+  pub ordered : IsOrdered before doubt order (event_time before now) end new left
