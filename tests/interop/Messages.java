@@ -25,6 +25,7 @@ import org.bouncycastle.asn1.DERSet;
 import org.bouncycastle.asn1.DERTaggedObject;
 import org.bouncycastle.asn1.DERUTF8String;
 import org.bouncycastle.asn1.cmp.CertConfirmContent;
+import org.bouncycastle.asn1.cmp.CMPCertificate;
 import org.bouncycastle.asn1.cmp.CertRepMessage;
 import org.bouncycastle.asn1.cmp.CertResponse;
 import org.bouncycastle.asn1.cmp.CertStatus;
@@ -48,6 +49,7 @@ import org.bouncycastle.asn1.cmp.PollReqContent;
 import org.bouncycastle.asn1.cmp.RevDetails;
 import org.bouncycastle.asn1.cmp.RevRepContentBuilder;
 import org.bouncycastle.asn1.cmp.RevReqContent;
+import org.bouncycastle.asn1.crmf.CertId;
 import org.bouncycastle.asn1.crmf.CertReqMessages;
 import org.bouncycastle.asn1.crmf.CertReqMsg;
 import org.bouncycastle.asn1.crmf.CertRequest;
@@ -64,6 +66,7 @@ import org.bouncycastle.asn1.x509.Certificate;
 import org.bouncycastle.asn1.x509.GeneralName;
 import org.bouncycastle.asn1.x509.SubjectPublicKeyInfo;
 import org.bouncycastle.asn1.x509.Time;
+import org.bouncycastle.asn1.x509.V2TBSCertListGenerator;
 import org.bouncycastle.asn1.x509.V3TBSCertificateGenerator;
 import org.bouncycastle.cert.X509CertificateHolder;
 import org.bouncycastle.cert.cmp.GeneralPKIMessage;
@@ -81,7 +84,7 @@ import org.bouncycastle.pkcs.jcajce.JcePBMac1CalculatorBuilder;
 import org.bouncycastle.pkcs.jcajce.JcePBMac1CalculatorProviderBuilder;
 
 /**
- * Makes PBMAC1-protected CMP messages with Bouncy Castle, from a fixed seed.
+ * Makes CMP messages with Bouncy Castle, protected by PBMAC1 and unprotected, from a fixed seed.
  *
  * <p>The one argument is a folder. Each message becomes a file there, and a line of the file {@code index}:
  * file, secret in hexadecimal, Bouncy Castle's own verdict and a title, with tabs between.
@@ -93,6 +96,11 @@ public final class Messages {
     private static final AlgorithmIdentifier HSS_LMS =
             new AlgorithmIdentifier(new ASN1ObjectIdentifier("1.2.840.113549.1.9.16.3.17"));
     private static final X500Name NAME = new X500Name("CN=device-1,O=Fleet");
+    /** Times that a header may have, and behind them times that aren't in DER's form, or before 1970. */
+    private static final String[] TIMES = {"20231114221320Z", "19700101000000Z", "99991231235959Z", "20240229235959Z", "20000229000000Z",
+        "20231114221320.5Z", "20231114221320+0100", "202311142213Z", "19691231235959Z"};
+    private static final int GOOD_TIMES = 5;
+    private static final String[][] TEXTS = {{"first"}, {"first", "zweite \u00fc", "\u20ac \ud83d\ude00"}, {""}, {"long ".repeat(60), "", "last"}};
 
     private final Random random = new Random(20240229);
     private final Path folder;
@@ -111,6 +119,7 @@ public final class Messages {
             Messages messages = new Messages(folder, index);
             messages.makeByBuilder();
             messages.makeByHeader();
+            messages.makeByFields();
             messages.makeByParameters();
             messages.makeRefused();
         }
@@ -287,6 +296,85 @@ public final class Messages {
             case 5 -> new DERTaggedObject(false, 30, new DEROctetString(octets(300)));
             default -> new DERBitString(octets(9), 3 & ~3);
         };
+    }
+
+    // Headers with each set of fields, bodies of each tag, protected and not
+
+    private void makeByFields() throws Exception {
+        List<GeneralName> names = names();
+        List<PKIBody> bodies = bodies();
+        bodies.addAll(otherBodies());
+        for (int i = 0; i < bodies.size(); i++) {
+            PKIBody body = bodies.get(i);
+            for (int variant = 0; variant < 4; variant++) {
+                // Every field, none, a set of them, and a set with a time that may be odd. A builder keeps no field once it has built.
+                int choice = variant == 0 ? 0xFF : variant == 1 ? 0 : random.nextInt(0x100) | (variant == 3 ? 0x20 : 0);
+                String title = String.format(", body %d, fields %02x", body.getType(), choice);
+                PKIHeaderBuilder[] headers = new PKIHeaderBuilder[2];
+                for (int k = 0; k < 2; k++) {
+                    headers[k] = new PKIHeaderBuilder(variant + 1, names.get((i + variant) % names.size()), names.get((3 * i + variant) % names.size()));
+                    setAllFields(headers[k], choice, variant == 3 ? i : i % GOOD_TIMES);
+                }
+                keep(new PKIMessage(headers[0].build(), body).getEncoded("DER"), ascii("secret-1"), "unprotected" + title);
+                ASN1Encodable extra = variant == 2 ? new DERSequence(certificate().toASN1Structure()) : null;
+                byte[] secret = octets(8 + i);
+                keep(protect(headers[1], body.getContent(), body.getType(), extra, secret, octets(16), 1 + i, i % 2 == 0, true),
+                        secret, "protected" + title);
+            }
+        }
+    }
+
+    private void setAllFields(PKIHeaderBuilder header, int choice, int time) throws IOException {
+        setFields(header, choice & 0x1F);
+        if ((choice & 0x20) != 0) {
+            header.setMessageTime(new ASN1GeneralizedTime(TIMES[time % TIMES.length]));
+        }
+        if ((choice & 0x40) != 0) {
+            header.setFreeText(new PKIFreeText(TEXTS[random.nextInt(TEXTS.length)]));
+        }
+        if ((choice & 0x80) != 0) {
+            header.setGeneralInfo(infos(1 + random.nextInt(6)));
+        }
+    }
+
+    private InfoTypeAndValue[] infos(int count) throws IOException {
+        PKIHeader inner = new PKIHeaderBuilder(2, names().get(0), names().get(1)).build();
+        List<InfoTypeAndValue> all = List.of(
+                new InfoTypeAndValue(CMPObjectIdentifiers.it_implicitConfirm, DERNull.INSTANCE),
+                new InfoTypeAndValue(CMPObjectIdentifiers.it_confirmWaitTime, new ASN1GeneralizedTime("20231114221320Z")),
+                new InfoTypeAndValue(CMPObjectIdentifiers.it_origPKIMessage,
+                        new PKIMessages(new PKIMessage(inner, new PKIBody(PKIBody.TYPE_CONFIRM, new PKIConfirmContent())))),
+                new InfoTypeAndValue(new ASN1ObjectIdentifier("1.3.6.1.5.5.7.4.17")),
+                new InfoTypeAndValue(new ASN1ObjectIdentifier("1.3.6.1.4.1.32473.1"), new DERUTF8String("a profile")),
+                new InfoTypeAndValue(new ASN1ObjectIdentifier("2.999.1.300"), new DERTaggedObject(false, 3, new DEROctetString(octets(140)))));
+        return all.subList(0, count).toArray(new InfoTypeAndValue[0]);
+    }
+
+    /** Bodies of the tags that the service doesn't look into, as RFC 9810, 5.3 has them. */
+    private List<PKIBody> otherBodies() throws Exception {
+        PKIStatusInfo accepted = new PKIStatusInfo(PKIStatus.granted);
+        CMPCertificate certificate = new CMPCertificate(certificate().toASN1Structure());
+        V2TBSCertListGenerator list = new V2TBSCertListGenerator();
+        list.setSignature(HSS_LMS);
+        list.setIssuer(NAME);
+        list.setThisUpdate(new Time(new Date(1_700_000_000_000L)));
+        DERSequence crl = new DERSequence(new ASN1Encodable[] {list.generateTBSCertList(), HSS_LMS, new DERBitString(octets(64))});
+        DERSequence revoked = new DERSequence(new ASN1Encodable[] {
+            PKIStatus.revocationNotification, new CertId(new GeneralName(NAME), BigInteger.TWO),
+            new ASN1GeneralizedTime("20231114221320Z"), new ASN1GeneralizedTime("20231114221320Z")});
+        return List.of(
+                new PKIBody(PKIBody.TYPE_POPO_CHALL, new DERSequence(new DERSequence(
+                        new ASN1Encodable[] {new DEROctetString(octets(32)), new DEROctetString(octets(128))}))),
+                new PKIBody(PKIBody.TYPE_POPO_REP, new DERSequence(new ASN1Integer(77))),
+                new PKIBody(PKIBody.TYPE_KEY_RECOVERY_REQ, requests()),
+                new PKIBody(PKIBody.TYPE_KEY_RECOVERY_REP, new DERSequence(accepted)),
+                new PKIBody(PKIBody.TYPE_CROSS_CERT_REQ, requests()),
+                new PKIBody(PKIBody.TYPE_CROSS_CERT_REP,
+                        new CertRepMessage(null, new CertResponse[] {new CertResponse(new ASN1Integer(0), accepted)})),
+                new PKIBody(PKIBody.TYPE_CA_KEY_UPDATE_ANN, new DERSequence(new ASN1Encodable[] {certificate, certificate, certificate})),
+                new PKIBody(PKIBody.TYPE_CERT_ANN, certificate),
+                new PKIBody(PKIBody.TYPE_REVOCATION_ANN, revoked),
+                new PKIBody(PKIBody.TYPE_CRL_ANN, new DERSequence(crl)));
     }
 
     // Parameters of PBMAC1 at and past the ends of their ranges

@@ -130,7 +130,7 @@ def fields():
     yield "an empty header", frame(sequence(b""))
 
 
-def later_fields():
+def times_texts_and_infos():
     time, text = field(0, encoded(0x18, b"20231114221320Z")), field(7, sequence(encoded(0x0C, b"text")))
     info = field(8, sequence(algorithm("2b0601050507040d", NULL)))
     for title, part in (("messageTime", time), ("freeText", text), ("generalInfo", info)):
@@ -268,5 +268,5 @@ def sizes():
 
 
 def messages():
-    for part in (versions, names, fields, later_fields, bodies, protections, salts_and_counts, algorithms, sizes):
+    for part in (versions, names, fields, times_texts_and_infos, bodies, protections, salts_and_counts, algorithms, sizes):
         yield from part()

@@ -1,22 +1,28 @@
 """Feeds messages that others made to `cmpca verify` and compares the answers.
 
-Words: the program, and the folder that Messages.java filled, if there is one. Ends with status 1 where
-an answer differs from the one that is owed, or where a changed message is accepted.
+Words: the program, and the folder that Messages.java filled, if there is one. Prints how many answers agreed, and each
+disagreement by its kind. Ends with status 1 where an answer differs from the one that is owed, or where a changed message
+is accepted.
 """
 
 import random
 import subprocess
 import sys
-from collections import Counter
+from collections import Counter, defaultdict
 from concurrent.futures import ThreadPoolExecutor
 from pathlib import Path
 
 import handmade
+import mutants
 import reference
+from mutants import Node, flipped, loose
 
 USAGE = "usage: cmpca verify SECRET | JOURNAL KEY COMMAND"
 FLIPS = 500
+MUTANTS = 2000
 SECONDS = 60
+# Mutants are of messages that are short and whose MAC is soon made.
+LONGEST_MUTATED, ROUNDS_MUTATED = 10_000, 1000
 
 
 class Runs:
@@ -24,8 +30,8 @@ class Runs:
 
     def __init__(self, program: str):
         self.program = program
-        self.disagreements: list[str] = []
-        self.reads_later = self.answer(*later_probe()) == (1, reference.LATER + "\n")
+        self.agreements = 0
+        self.disagreements: dict[str, list[str]] = defaultdict(list)
 
     def answer(self, message: bytes, *words: str) -> tuple[int, str]:
         try:
@@ -38,9 +44,6 @@ class Runs:
 
     def owed(self, message: bytes, secret: bytes) -> tuple[int, str]:
         text = reference.verdict(message, secret)
-        small = len(message) <= reference.GREATEST_INPUT
-        if self.reads_later and small and reference.has_later_field(message):
-            text = reference.LATER
         return (0 if text == reference.VERIFIED else 1), text + "\n"
 
     def compare(self, cases, never_verified: bool = False) -> Counter:
@@ -52,84 +55,83 @@ class Runs:
                 counts[answer[1].strip()] += 1
                 owed = self.owed(message, secret)
                 if answer != owed:
-                    self.note(title, message, f"status {answer[0]}, {answer[1]!r} in the place of status {owed[0]}, {owed[1]!r}")
-                elif never_verified and (answer[0] not in (0, 1, 2) or reference.VERIFIED in answer[1]):
-                    self.note(title, message, f"status {answer[0]}, {answer[1]!r} for a changed message")
+                    self.note(f"status {answer[0]}, {answer[1]!r} in the place of status {owed[0]}, {owed[1]!r}", title, message)
+                elif never_verified and reference.VERIFIED in answer[1]:
+                    self.note("a changed message is accepted", title, message)
+                else:
+                    self.agreements += 1
         return counts
 
-    def note(self, title: str, message: bytes, text: str) -> None:
-        self.disagreements.append(f"{title}: {text}; message {message[:200].hex()} of {len(message)} octets")
+    def note(self, kind: str, title: str, message: bytes) -> None:
+        self.disagreements[kind].append(f"{title}; message {message[:200].hex()} of {len(message)} octets")
 
-
-def later_probe() -> tuple[bytes, str, str]:
-    time = handmade.field(0, handmade.encoded(0x18, b"20231114221320Z"))
-    return handmade.frame(handmade.header(before=time)), "verify", handmade.SECRET.hex()
+    def show_disagreements(self) -> int:
+        """Prints each of them and gives how many they are."""
+        for kind, texts in self.disagreements.items():
+            print(f"DISAGREES  {len(texts)} times {kind}")
+            for text in texts:
+                print(f"  {text}")
+        return sum(len(texts) for texts in self.disagreements.values())
 
 
 # Bouncy Castle's messages
 
-def compare_others(runs: Runs, folder: Path) -> None:
+def read_others(folder: Path) -> list[tuple[str, str, bytes, bytes]]:
+    """Bouncy Castle's own verdict, title, message and secret of each."""
     lines = [line.split("\t") for line in (folder / "index").read_text("utf-8").splitlines()]
-    cases = [(title, (folder / file).read_bytes(), bytes.fromhex(secret)) for file, secret, _, title in lines]
-    counts = runs.compare(cases)
-    print(f"messages of Bouncy Castle: {len(cases)}")
+    return [(verdict, title, (folder / file).read_bytes(), bytes.fromhex(secret)) for file, secret, verdict, title in lines]
+
+
+def compare_others(runs: Runs, others: list[tuple[str, str, bytes, bytes]]) -> None:
+    counts = runs.compare([case[1:] for case in others])
+    print(f"messages of Bouncy Castle: {len(others)}")
     show(counts)
-    both, profile = 0, 0
-    for (_, _, verdict, title), case in zip(lines, cases):
+    same, profile = 0, 0
+    for verdict, title, message, secret in others:
+        owed = reference.verdict(message, secret)
         if verdict == "unread":
             continue
-        answer = runs.owed(*case[1:])[1].strip()
-        if answer in (reference.BAD_ALG, reference.LATER):
+        if owed == reference.BAD_ALG:
             profile += 1
-        elif (verdict == "verified") == (answer == reference.VERIFIED):
-            both += 1
+        elif (verdict == "verified") == (owed == reference.VERIFIED):
+            same += 1
         else:
-            runs.note(title, case[1], f"Bouncy Castle says {verdict}")
-    print(f"  Bouncy Castle's own check says the same of {both}; {profile} it takes that are outside the profile (badAlg, later form);")
-    print("  the others its check doesn't read (bodies of any content, no keyLength, octets that are no text as secret)")
+            runs.note(f"Bouncy Castle says {verdict}", title, message)
+    print(f"  Bouncy Castle's own check says the same of {same}; {profile} it takes that are outside the profile (badAlg);")
+    print("  the others its check doesn't read (no protection, bodies of any content, no keyLength, octets that are no text as secret)")
+
+
+def can_be_mutated(message: bytes) -> bool:
+    try:
+        found = reference.frame(message)
+        rounds = reference.mac_parameters(*found.named)[1] if found.named else 0
+    except (reference.BadForm, reference.BadAlg):
+        return False
+    return len(message) <= LONGEST_MUTATED and rounds <= ROUNDS_MUTATED
+
+
+def compare_mutants(runs: Runs, others: list[tuple[str, str, bytes, bytes]]) -> None:
+    sources = [case[1:] for case in others if can_be_mutated(case[2])]
+    cases = list(mutants.mutants(sources, MUTANTS))
+    print(f"mutants of {len(sources)} of them: {len(cases)}")
+    show(runs.compare(cases))
 
 
 # Changed messages
 
-class Node:
-    """An element, with its parts where its content is a row of elements."""
-
-    def __init__(self, tag: int, content: bytes):
-        self.tag, self.content, self.parts = tag, content, None
-        if tag & 0x20:
-            try:
-                self.parts = [Node(*item) for item in reference.items(content)]
-            except reference.BadForm:
-                pass
-
-    def all(self):
-        yield self
-        for part in self.parts or []:
-            yield from part.all()
-
-    def octets(self, changed: "Node | None" = None, form: str = "") -> bytes:
-        content = self.content if self.parts is None else b"".join(part.octets(changed, form) for part in self.parts)
-        usual = reference.encoded(self.tag, content)
-        if self is not changed:
-            return usual
-        if form == "indefinite":
-            return bytes([self.tag, 0x80]) + content + b"\x00\x00"
-        width = int(form)
-        return bytes([self.tag, 0x80 | width]) + len(content).to_bytes(width, "big") + content
-
-
 def loose_lengths(message: bytes):
-    """The message with one length in another form than DER's, first with the old MAC and then with its own."""
+    """The message with one length in another form than DER's."""
     tree = Node(*reference.one(message))
     for place, node in enumerate(list(tree.all())):
-        length = len(node.content) if node.parts is None else len(b"".join(p.octets() for p in node.parts))
+        length = len(node.inside(Node.octets))
         least = 0 if length < 0x80 else (length.bit_length() + 7) // 8
-        for form in [str(width) for width in range(least + 1, 6)] + ["indefinite"]:
-            yield f"element {place} with a length of form {form}", tree.octets(node, form)
+        for width in (*range(least + 1, 6), 0):
+            changed = tree.octets(node, lambda content: loose(node.tag, content, width))
+            yield f"element {place} with a length of {width or 'no'} octets", changed
 
 
-def with_own_mac(message: bytes, secret: bytes) -> bytes | None:
-    """The message with the MAC over its header and body as they stand, where they can still be told."""
+def with_mac_behind(message: bytes) -> bytes | None:
+    """The message with the MAC over its header and body as they stand in its last octets, where the two can still be told."""
     try:
         _, content, _, _ = reference.element(message)
         _, _, header, rest = reference.element(content)
@@ -155,15 +157,10 @@ def whole_message() -> bytes:
     return handmade.frame(handmade.header(named, sender=name, after=fields), body, rounds=ROUNDS, salt=SALT)
 
 
-def flipped(message: bytes, bit: int) -> bytes:
-    place = bit // 8
-    return message[:place] + bytes([message[place] ^ 1 << bit % 8]) + message[place + 1 :]
-
-
 def compare_changed(runs: Runs) -> None:
     secret, message = handmade.SECRET, whole_message()
     if runs.answer(message, "verify", secret.hex())[0] != 0:
-        runs.note("the message to be changed", message, "it isn't verified")
+        runs.note("the message to be changed isn't verified", "whole", message)
     cut = [(f"cut off at {n}", message[:n], secret) for n in range(len(message))]
     bits = random.Random(1).sample(range(8 * len(message)), FLIPS)
     flips = [(f"bit {bit} flipped", flipped(message, bit), secret) for bit in bits]
@@ -171,7 +168,7 @@ def compare_changed(runs: Runs) -> None:
     for title, cases in (("cut off at each octet", cut), ("one bit flipped", flips), ("loose lengths", loose)):
         print(f"changed messages, {title}: {len(cases)}")
         show(runs.compare(cases, never_verified=True))
-    own = [(title + ", own MAC", anew, secret) for title, octets, _ in flips + loose if (anew := with_own_mac(octets, secret))]
+    own = [(title + ", own MAC", anew, secret) for title, octets, _ in flips + loose if (anew := with_mac_behind(octets))]
     print(f"changed messages with the MAC over what they are now: {len(own)}")
     show(runs.compare(own))
 
@@ -191,7 +188,9 @@ def compare_words(runs: Runs) -> None:
     ]
     for words, owed in cases:
         if (answer := runs.answer(message, *words)) != owed:
-            runs.note(f"words {words}", message, f"{answer} in the place of {owed}")
+            runs.note(f"{answer} in the place of {owed}", f"words {words}", message)
+        else:
+            runs.agreements += 1
     print(f"words: {len(cases)}")
 
 
@@ -203,18 +202,17 @@ def show(counts: Counter) -> None:
 def main() -> int:
     runs = Runs(sys.argv[1])
     if len(sys.argv) > 2:
-        compare_others(runs, Path(sys.argv[2]))
+        others = read_others(Path(sys.argv[2]))
+        compare_others(runs, others)
+        compare_mutants(runs, others)
     edges = [(title, message, handmade.SECRET) for title, message in handmade.messages()]
     print(f"messages at the edges of the grammar: {len(edges)}")
     show(runs.compare(edges))
     compare_changed(runs)
     compare_words(runs)
-    if runs.reads_later:
-        print("messageTime, freeText and generalInfo aren't read yet: `refused later form`")
-    for text in runs.disagreements:
-        print(f"DISAGREES  {text}")
-    print(f"disagreements: {len(runs.disagreements)}")
-    return 1 if runs.disagreements else 0
+    disagreements = runs.show_disagreements()
+    print(f"agreements: {runs.agreements}, disagreements: {disagreements}")
+    return 1 if disagreements else 0
 
 
 if __name__ == "__main__":

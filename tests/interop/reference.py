@@ -6,18 +6,16 @@ with the limits of this service. Python's hashlib and hmac (OpenSSL) make the MA
 
 import hashlib
 import hmac
+from typing import NamedTuple
 
 VERIFIED = "protection verified"
 BAD_FORM, BAD_CHECK, BAD_ALG = "refused badDataFormat", "refused badMessageCheck", "refused badAlg"
-LATER = "refused later form"
 
 GREATEST_INPUT = 131_072
 GREATEST_ROUNDS = 200_000
 PBMAC1 = bytes.fromhex("2a864886f70d01050e")
 PBKDF2 = bytes.fromhex("2a864886f70d01050c")
 HMAC_SHA256 = bytes.fromhex("2a864886f70d0209")
-# messageTime, freeText and generalInfo
-LATER_TAGS = (0xA0, 0xA7, 0xA8)
 
 
 class BadForm(Exception):
@@ -175,39 +173,49 @@ def generalized_time(item: tuple[int, bytes]) -> None:
     require(1 <= day <= days)
 
 
-def has_later_field(message: bytes) -> bool:
-    """Whether a field stands in the header that the service doesn't read yet."""
-    try:
-        header, content, _, _ = element(typed(one(message), 0x30))
-        require(header == 0x30)
-        return any(tag in LATER_TAGS for tag, _ in items(content)[3:])
-    except BadForm:
-        return False
+class Frame(NamedTuple):
+    """A message taken apart, its body and certificates not looked into."""
+
+    header: bytes
+    body: bytes
+    named: tuple[bytes, tuple[int, bytes] | None] | None
+    mac: bytes | None
+    certificates: bytes
+
+
+def frame(message: bytes) -> Frame:
+    """The grammar of PKIMessage (RFC 9810, 5.1) down to the header's fields."""
+    require(len(message) <= GREATEST_INPUT)
+    tag, inner, header, content = element(typed(one(message), 0x30))
+    require(tag == 0x30)
+    named = header_algorithm(inner)
+    tag, _, body, content = element(content)
+    require(0xA0 <= tag <= 0xA0 + 26)
+    mac = None
+    if content and content[0] == 0xA0:
+        _, inner, _, content = element(content)
+        bits = typed(one(inner), 0x03)
+        require(bits[:1] == b"\x00")
+        mac = bits[1:]
+    if content:
+        typed(one(content), 0xA1)
+    return Frame(header, body, named, mac, content)
+
+
+def mac_of(found: Frame, secret: bytes) -> bytes:
+    """The MAC over the header and the body as they stand (RFC 9810, 5.1.3; RFC 8018, 7.1)."""
+    salt, rounds = mac_parameters(*found.named)
+    key = hashlib.pbkdf2_hmac("sha256", secret, salt, rounds, 32)
+    return hmac.digest(key, sequence(found.header + found.body), "sha256")
 
 
 def verdict(message: bytes, secret: bytes) -> str:
-    """The answer once every field of the header is read."""
+    """The answer to a message under a secret."""
     try:
-        require(len(message) <= GREATEST_INPUT)
-        content = typed(one(message), 0x30)
-        tag, inner, header, content = element(content)
-        require(tag == 0x30)
-        named = header_algorithm(inner)
-        tag, _, body, content = element(content)
-        require(0xA0 <= tag <= 0xA0 + 26)
-        mac = None
-        if content and content[0] == 0xA0:
-            _, inner, _, content = element(content)
-            bits = typed(one(inner), 0x03)
-            require(bits[:1] == b"\x00")
-            mac = bits[1:]
-        if content:
-            typed(one(content), 0xA1)
-        if mac is None or named is None:
+        found = frame(message)
+        if found.mac is None or found.named is None:
             return BAD_CHECK
-        salt, rounds = mac_parameters(*named)
-        key = hashlib.pbkdf2_hmac("sha256", secret, salt, rounds, 32)
-        return VERIFIED if hmac.digest(key, sequence(header + body), "sha256") == mac else BAD_CHECK
+        return VERIFIED if mac_of(found, secret) == found.mac else BAD_CHECK
     except BadForm:
         return BAD_FORM
     except BadAlg:
