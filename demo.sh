@@ -20,8 +20,10 @@ mac=ff6a9dbf6e6138e94cfcaef5b41c0ce8dd9ad7680cd93ea723645c0f278bbcdb
 protection=a023032100
 
 header=3054020102$names$algorithm
-later=3067020102${names}a011180f32303233313131343232313332305a$algorithm
 wrong=${mac%b}a
+# The same header with a messageTime, and the MAC over it
+timed=3067020102${names}a011180f32303233313131343232313332305a$algorithm
+timed_mac=b68cdb4967eb3053176168d807b508156f46f462a8ad96737ea2541dc674b191
 
 failed=0
 
@@ -62,8 +64,10 @@ show "No octets at all" \
     "" "refused badDataFormat" 1 verify $secret
 show "No iterations in the parameters of PBKDF2" \
     "307f${header/$algorithm/$no_rounds}$body$protection$mac" "refused badAlg" 1 verify $secret
-show "With a messageTime, a field that isn't read yet" \
-    "308192$later$body$protection$mac" "refused later form" 1 verify $secret
+show "With a messageTime, and the MAC over it" \
+    "308192$timed$body$protection$timed_mac" "protection verified" 0 verify $secret
+show "A messageTime put in afterwards" \
+    "308192$timed$body$protection$mac" "refused badMessageCheck" 1 verify $secret
 show "A secret of 4 octets" \
     "" "usage: cmpca verify SECRET | JOURNAL KEY COMMAND" 2 verify 4a656665
 

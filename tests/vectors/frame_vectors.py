@@ -108,9 +108,9 @@ def main() -> None:
     old_mac = timed[:-32] + good[-32:]
     assert len(timed) == 149 and timed[:3] == b"\x30\x81\x92" and timed[3:5] == b"\x30\x67"
     show("messageTime present, the MAC of the first message", old_mac,
-         "refused later form, status 1; once messageTime is read: refused badMessageCheck, status 1")
+         "refused badMessageCheck, status 1")
     show("messageTime present, its own MAC", timed,
-         "refused later form, status 1; once messageTime is read: protection verified, status 0")
+         "protection verified, status 0")
 
     header = element(0x30, integer(2), EMPTY_NAME, EMPTY_NAME, element(0xA1, pbmac1(bytes(range(8)), 1)))
     body = element(0xB3, NULL)

@@ -1,79 +1,71 @@
 -- The reply of a run, where the source tells its octets and where it does not.
-use Rattle.std.specs.Prelude.{ℕ, List, [], Option, Some, None, IfSome, Bool, true, false, nat_le, nat_lt, ◌≡◌, ◌+◌, ◌<◌, ◌≤◌, ◌⊎◌, length, take, refl, codes}
-use Rattle.std.proofs.Common.{arith, ap, ◌∙◌, sym, subst, inl, inr, length-take-le}
+use Rattle.std.specs.Prelude.{ℕ, List, [], Option, Some, None, IfSome, ◌≡◌, ◌+◌, ◌<◌, length, take, refl, codes}
+use Rattle.std.proofs.Common.{arith, sym, subst, inl, inr, length-take-le}
 use Rattle.std.proofs.lemmas.List.{take_all}
 use Rattle.std.proofs.lemmas.Bool.{cases_lt}
-use Rattle.std.proofs.lemmas.Bool.Decides.{nat_tests}
 use Rattle.journal_core.specs.declared.fault.MountFault.TheVariants as mounts
-use Rattle.cmp_frame.specs.Frame.{frame_at, message_limit}
-use Rattle.cmp_frame.specs.LaterForm.{has_later_form}
+use Rattle.pki_message.specs.Frame.{FrameForm, IsFrame, message_limit}
 use Rattle.cmpca.specs.declared.words.Command.{Command}
 use Rattle.cmpca.specs.declared.words.Command.TheVariants.{Verify}
-use Rattle.cmpca.specs.Verdict.{verdict_of}
-use Rattle.cmpca.specs.Causes.{VerdictIsCaused}
+use Rattle.cmpca.specs.Causes.{IsSoleVerdict}
 use Rattle.cmpca.specs.Reply.{Ran, Wrote, IsReply, IsVerifyReply, IsShowReply, TellsVerdict, verdict_status, verdict_line, usage_line, line}
 use Rattle.cmpca.specs.declared.verdict.Verdict.{Verdict}
-use Rattle.cmpca.specs.declared.verdict.Verdict.TheVariants.{Verified, LaterForm, BadDataFormat, Unprotected, BadAlg, WrongMac}
+use Rattle.cmpca.specs.declared.verdict.Verdict.TheVariants.{Verified, BadDataFormat, Unprotected, BadAlg, WrongMac}
 use Rattle.cmpca.specs.declared.status.Status.{Status}
 use Rattle.cmpca.specs.declared.status.Status.TheVariants.{Usage, NoMemory}
+use Rattle.cmpca.proofs.CauseLemmas.{no_frame_verdict}
 
 -- octets that a source had left, where it tells them
 pub some_input : (left : Option (List ℕ)) → (input : List ℕ) × IfSome left (λ all. all ≡ input)
 some_input None = ([], tt)
 some_input (Some all) = (all, refl)
 
--- more octets than the limit are of no later form, and no frame
-long_form : (octets : List ℕ) → message_limit < length octets → has_later_form octets ≡ false
-unfolding has_later_form
-long_form octets long = let test : nat_le (length octets) message_limit ≡ false = grind (arith, nat_tests) in rw test refl
+-- more octets than the limit are no frame
+long_none : (octets : List ℕ) → message_limit < length octets → (f : FrameForm) → IsFrame octets f → ⊥
+long_none octets long f is = omega (arith, long, is.limited)
 
-long_frame : (octets : List ℕ) → message_limit < length octets → frame_at octets ≡ None
-unfolding frame_at
-long_frame octets long = let test : nat_lt message_limit (length octets) ≡ true = grind (arith, nat_tests) in rw test refl
-
-long_verdict : (secret octets : List ℕ) → message_limit < length octets → verdict_of secret octets ≡ BadDataFormat
-long_verdict secret octets long = rw (long_form octets long, long_frame octets long) refl
+long_verdict : (secret octets all : List ℕ) (v : Verdict) → message_limit < length octets → message_limit < length all → IsSoleVerdict secret octets v → IsSoleVerdict secret all v
+long_verdict secret octets all v long long_all h =
+    subst (IsSoleVerdict secret all) (h.sole BadDataFormat record { no_frame = long_none octets long }) (no_frame_verdict secret all (long_none all long_all))
 
 -- one octet past the limit tells as much as all octets
-pub front_verdict : (secret all : List ℕ) → verdict_of secret (take (message_limit + 1) all) ≡ verdict_of secret all
-front_verdict secret all = elim (cases_lt message_limit (length all)) [
-  | inl long ↦ long_verdict secret (take (message_limit + 1) all) (omega (arith, length-take-le (message_limit + 1) all (omega arith))) ∙ sym (long_verdict secret all long)
-  | inr short ↦ ap (verdict_of secret) (take_all (message_limit + 1) all (omega arith))
+front_verdict : (secret all : List ℕ) (v : Verdict) → IsSoleVerdict secret (take (message_limit + 1) all) v → IsSoleVerdict secret all v
+front_verdict secret all v h = elim (cases_lt message_limit (length all)) [
+  | inl long ↦ long_verdict secret (take (message_limit + 1) all) all v (omega (arith, length-take-le (message_limit + 1) all (omega arith))) long h
+  | inr short ↦ subst (λ (l : List ℕ). IsSoleVerdict secret l v) (take_all (message_limit + 1) all (omega arith)) h
 ]
 
 -- the input that the source had left, with the verdict on what was read of it
-pub told_input : (left : Option (List ℕ)) (secret octets : List ℕ) → IfSome left (λ all. octets ≡ take (message_limit + 1) all)
-    → (input : List ℕ) × IfSome left (λ all. all ≡ input) × (verdict_of secret octets ≡ verdict_of secret input)
-told_input None secret octets read = (octets, tt, refl)
-told_input (Some all) secret octets read = (all, refl, ap (verdict_of secret) read ∙ front_verdict secret all)
+record IsToldInput (left : Option (List ℕ)) (secret : List ℕ) (v : Verdict) : Type 0 where
+  input : List ℕ
+  read : IfSome left (λ all. all ≡ input)
+  is_verdict : IsSoleVerdict secret input v
+
+told_input : (left : Option (List ℕ)) (secret octets : List ℕ) (v : Verdict) → IfSome left (λ all. octets ≡ take (message_limit + 1) all) → IsSoleVerdict secret octets v → IsToldInput left secret v
+told_input None secret octets v read h = record { input = octets; read = tt; is_verdict = h }
+told_input (Some all) secret octets v read h =
+    record { input = all; read = refl; is_verdict = front_verdict secret all v (subst (λ (l : List ℕ). IsSoleVerdict secret l v) read h) }
 
 -- a verdict is a reply
 told_reply : (secret input text : List ℕ) (v : Verdict) → TellsVerdict secret input (verdict_status v) text → IsVerifyReply secret input (verdict_status v) text
 told_reply secret input text Verified h = h
-told_reply secret input text LaterForm h = h
 told_reply secret input text BadDataFormat h = h
 told_reply secret input text Unprotected h = h
 told_reply secret input text BadAlg h = h
 told_reply secret input text WrongMac h = h
 
 -- the run that tells a verdict
-pub ran_verdict : VerdictIsCaused → (left content old new : Option (List ℕ)) (reply status : Status) (secret octets text : List ℕ) (v : Verdict)
-    → IfSome left (λ all. octets ≡ take (message_limit + 1) all) → v ≡ verdict_of secret octets
+pub ran_verdict : (left content old new : Option (List ℕ)) (reply status : Status) (secret octets text : List ℕ) (v : Verdict)
+    → IfSome left (λ all. octets ≡ take (message_limit + 1) all) → IsSoleVerdict secret octets v
     → reply ≡ verdict_status v → text ≡ verdict_line v → Wrote old new reply text status → Ran (Some (Verify secret)) left content old new status
-ran_verdict law left content old new reply status secret octets text v read is ends says wrote =
-    let i = told_input left secret octets read in
-    let same : v ≡ verdict_of secret i.0 = is ∙ i.2 in
+ran_verdict left content old new reply status secret octets text v read is ends says wrote =
+    let i = told_input left secret octets v read is in
     record {
-      input = i.0;
+      input = i.input;
       reply = verdict_status v;
       text = text;
-      read = i.1;
-      is_reply = told_reply secret i.0 text v record {
-        ends = ap verdict_status same;
-        says = says ∙ ap verdict_line same;
-        is_verdict = (law secret i.0 (verdict_of secret i.0)).1 refl;
-        sole_verdict = λ w h. (law secret i.0 w).0 h;
-      };
+      read = i.read;
+      is_reply = told_reply secret i.input text v record { verdict = v; is_verdict = i.is_verdict; ends = refl; says = says };
       wrote = subst (λ (r : Status). Wrote old new r text status) ends wrote;
     }
 

@@ -1,56 +1,43 @@
 -- What each verdict means, by the spelling of a message (RFC 9810, 5.1), PBMAC1 (RFC 8018, 7.1; RFC 9481, 6.1.1) and its
--- MAC over the protected part (RFC 9810, 5.1.3). No reader is named but the one that asks for a later form.
-use Rattle.std.specs.Prelude.{◌≡◌, ℕ, ◌⊎◌, ◌↔◌, IsTrue, IsFalse, List, Option, Some, None}
-use Rattle.pbmac.specs.Algorithm.{Algorithm}
+-- MAC over the protected part (RFC 9810, 5.1.3). No reader is named.
+use Rattle.std.specs.Prelude.{◌≡◌, ℕ, ◌⊎◌, List, Some, None}
+use Rattle.asn_types.specs.Algorithm.{Algorithm}
 use Rattle.pbmac.specs.Mac.{MacOk}
 use Rattle.pbmac.specs.declared.params.MacParams.{MacParams}
-use Rattle.cmp_frame.specs.Frame.{Framed, protected_part}
-use Rattle.cmp_frame.specs.LaterForm.{has_later_form}
-use Rattle.frame_grammar.specs.FrameSpelling.{IsFrame}
 use Rattle.pbmac_grammar.specs.Pbmac1.{IsPbmac1}
-use Rattle.cmpca.specs.Verdict.{verdict_of}
+use Rattle.pki_message.specs.Frame.{FrameForm, IsFrame, protected_part}
 use Rattle.cmpca.specs.declared.verdict.Verdict.{Verdict}
-use Rattle.cmpca.specs.declared.verdict.Verdict.TheVariants.{Verified, LaterForm, BadDataFormat, Unprotected, BadAlg, WrongMac}
-
--- The octets have no field that is not read yet, and they are the spelling of this frame.
-pub record IsMessage (input : List ℕ) (frame : Framed) : Type 0 where
-  pub read : IsFalse (has_later_form input)
-  pub spelled : IsFrame input frame
+use Rattle.cmpca.specs.declared.verdict.Verdict.TheVariants.{Verified, BadDataFormat, Unprotected, BadAlg, WrongMac}
 
 -- The octets are a message with this algorithm and this protection.
-pub record IsProtected (input : List ℕ) (frame : Framed) (alg : Algorithm) (mac : List ℕ) : Type 0 where
-  pub message : IsMessage input frame
+pub record IsProtected (input : List ℕ) (frame : FrameForm) (alg : Algorithm) (mac : List ℕ) : Type 0 where
+  pub message : IsFrame input frame
   pub algorithm : frame.head.alg ≡ Some alg
   pub protection : frame.protection ≡ Some mac
 
 -- They are a message whose algorithm is PBMAC1 with these parameters.
-pub record IsMaced (input : List ℕ) (frame : Framed) (params : MacParams) (mac : List ℕ) : Type 0 where
+pub record IsMaced (input : List ℕ) (frame : FrameForm) (params : MacParams) (mac : List ℕ) : Type 0 where
   pub alg : Algorithm
   pub protected : IsProtected input frame alg mac
   pub pbmac1 : IsPbmac1 alg params.salt params.rounds
 
--- The MAC is that of the header and the body under the secret.
-abbrev pub MacHolds : List ℕ → Framed → MacParams → List ℕ → Type 0
+-- The MAC is that of the header and the body, as they stand, under the secret.
+abbrev pub MacHolds : List ℕ → FrameForm → MacParams → List ℕ → Type 0
 MacHolds secret frame params mac = MacOk secret params (protected_part frame.header_bytes frame.body_bytes) mac
 
--- refused later form: the header has a field that is not read yet
-pub record IsLaterForm (input : List ℕ) : Type 0 where
-  pub later : IsTrue (has_later_form input)
-
--- refused badDataFormat: the octets are the spelling of no frame
+-- refused badDataFormat: the octets are no message, or more than are read
 pub record IsBadDataFormat (input : List ℕ) : Type 0 where
-  pub read : IsFalse (has_later_form input)
-  pub no_frame : (frame : Framed) → IsFrame input frame → ⊥
+  pub no_frame : (frame : FrameForm) → IsFrame input frame → ⊥
 
 -- refused badMessageCheck: the protection is missing, or the algorithm that made it
 pub record IsUnprotected (input : List ℕ) : Type 0 where
-  pub frame : Framed
-  pub message : IsMessage input frame
+  pub frame : FrameForm
+  pub message : IsFrame input frame
   pub missing : (frame.head.alg ≡ None) ⊎ (frame.protection ≡ None)
 
 -- refused badAlg: the algorithm is not PBMAC1 within its limits
 pub record IsBadAlg (input : List ℕ) : Type 0 where
-  pub frame : Framed
+  pub frame : FrameForm
   pub alg : Algorithm
   pub mac : List ℕ
   pub protected : IsProtected input frame alg mac
@@ -58,7 +45,7 @@ pub record IsBadAlg (input : List ℕ) : Type 0 where
 
 -- refused badMessageCheck: the MAC is another
 pub record IsWrongMac (secret input : List ℕ) : Type 0 where
-  pub frame : Framed
+  pub frame : FrameForm
   pub params : MacParams
   pub mac : List ℕ
   pub maced : IsMaced input frame params mac
@@ -66,7 +53,7 @@ pub record IsWrongMac (secret input : List ℕ) : Type 0 where
 
 -- protection verified: the MAC holds
 pub record IsVerified (secret input : List ℕ) : Type 0 where
-  pub frame : Framed
+  pub frame : FrameForm
   pub params : MacParams
   pub mac : List ℕ
   pub maced : IsMaced input frame params mac
@@ -75,12 +62,12 @@ pub record IsVerified (secret input : List ℕ) : Type 0 where
 -- The verdict on a message under a secret has its cause.
 abbrev pub IsVerdict : List ℕ → List ℕ → Verdict → Type 0
 IsVerdict secret input Verified = IsVerified secret input
-IsVerdict secret input LaterForm = IsLaterForm input
 IsVerdict secret input BadDataFormat = IsBadDataFormat input
 IsVerdict secret input Unprotected = IsUnprotected input
 IsVerdict secret input BadAlg = IsBadAlg input
 IsVerdict secret input WrongMac = IsWrongMac secret input
 
--- Each message has one verdict whose cause it has, and that is the verdict on it.
-abbrev pub VerdictIsCaused : Type 0
-VerdictIsCaused = (secret input : List ℕ) (v : Verdict) → IsVerdict secret input v ↔ (v ≡ verdict_of secret input)
+-- This verdict has its cause, and no other one has.
+pub record IsSoleVerdict (secret input : List ℕ) (v : Verdict) : Type 0 where
+  pub caused : IsVerdict secret input v
+  pub sole : (other : Verdict) → IsVerdict secret input other → other ≡ v

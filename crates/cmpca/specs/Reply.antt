@@ -9,12 +9,11 @@ use Rattle.deal_lines.specs.Lines.{lines_of}
 use Rattle.desk_laws.specs.Answers.{Holds}
 use Rattle.journal_core.specs.declared.fault.MountFault.{MountFault}
 use Rattle.journal_core.specs.declared.fault.MountFault.TheVariants as mounts
-use Rattle.cmpca.specs.Verdict.{verdict_of}
-use Rattle.cmpca.specs.Causes.{IsVerdict}
+use Rattle.cmpca.specs.Causes.{IsSoleVerdict}
 use Rattle.cmpca.specs.declared.words.Command.{Command}
 use Rattle.cmpca.specs.declared.words.Command.TheVariants.{Verify, Show}
 use Rattle.cmpca.specs.declared.verdict.Verdict.{Verdict}
-use Rattle.cmpca.specs.declared.verdict.Verdict.TheVariants.{Verified, LaterForm, BadDataFormat, Unprotected, BadAlg, WrongMac}
+use Rattle.cmpca.specs.declared.verdict.Verdict.TheVariants.{Verified, BadDataFormat, Unprotected, BadAlg, WrongMac}
 use Rattle.cmpca.specs.declared.status.Status.{Status}
 use Rattle.cmpca.specs.declared.status.Status.TheVariants.{Done, Refused, Usage, ReadFault, WriteFault, DiskFault, NoMemory, Damaged, NotFounded}
 
@@ -31,7 +30,6 @@ usage_line = line (codes "usage: cmpca verify SECRET | JOURNAL KEY COMMAND")
 -- the line that tells a verdict; a refusal has the name of its failInfo (RFC 9810, 5.2.3)
 abbrev pub verdict_line : Verdict → List ℕ
 verdict_line Verified = line (codes "protection verified")
-verdict_line LaterForm = line (codes "refused later form")
 verdict_line BadDataFormat = line (codes "refused badDataFormat")
 verdict_line Unprotected = line (codes "refused badMessageCheck")
 verdict_line BadAlg = line (codes "refused badAlg")
@@ -40,7 +38,6 @@ verdict_line WrongMac = line (codes "refused badMessageCheck")
 -- how a run with this verdict ends
 abbrev pub verdict_status : Verdict → Status
 verdict_status Verified = Done
-verdict_status LaterForm = Refused
 verdict_status BadDataFormat = Refused
 verdict_status Unprotected = Refused
 verdict_status BadAlg = Refused
@@ -49,10 +46,10 @@ verdict_status WrongMac = Refused
 -- The status and the text are those of the verdict on the input under the secret: the verdict whose cause the input has,
 -- and no other.
 pub record TellsVerdict (secret input : List ℕ) (status : Status) (text : List ℕ) : Type 0 where
-  pub ends : status ≡ verdict_status (verdict_of secret input)
-  pub says : text ≡ verdict_line (verdict_of secret input)
-  pub is_verdict : IsVerdict secret input (verdict_of secret input)
-  pub sole_verdict : (v : Verdict) → IsVerdict secret input v → v ≡ verdict_of secret input
+  pub verdict : Verdict
+  pub is_verdict : IsSoleVerdict secret input verdict
+  pub ends : status ≡ verdict_status verdict
+  pub says : text ≡ verdict_line verdict
 
 -- the text that ends so, for the input; a fault of reading and want of memory come besides
 abbrev pub IsVerifyReply : List ℕ → List ℕ → Status → List ℕ → Type 0

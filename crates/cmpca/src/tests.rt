@@ -35,9 +35,13 @@ const NO_ROUNDS: &str =
 const MANY_ROUNDS: &str =
     "3081813056020102a4023000a4023000a149304706092a864886f70d01050e303a302a06092a864886f70d01050c301d040800010203040506070203030d41300c06082a864886f70d02090500300c06082a864886f70d02090500b3020500a0230321008636fbc44b7d2975abb014558b608bf8320a8aa5f9820c672a95e0ba41aabda9";
 
-/// A messageTime behind the recipient.
-const LATER_FORM: &str =
+/// The first message with a messageTime behind the recipient, which its MAC is not over.
+const TIME_PUT_IN: &str =
     "3081923067020102a4023000a4023000a011180f32303233313131343232313332305aa147304506092a864886f70d01050e3038302806092a864886f70d01050c301b04080001020304050607020101300c06082a864886f70d02090500300c06082a864886f70d02090500b3020500a023032100ff6a9dbf6e6138e94cfcaef5b41c0ce8dd9ad7680cd93ea723645c0f278bbcdb";
+
+/// The same, with the MAC of its own protected part.
+const TIMED: &str =
+    "3081923067020102a4023000a4023000a011180f32303233313131343232313332305aa147304506092a864886f70d01050e3038302806092a864886f70d01050c301b04080001020304050607020101300c06082a864886f70d02090500300c06082a864886f70d02090500b3020500a023032100b68cdb4967eb3053176168d807b508156f46f462a8ad96737ea2541dc674b191";
 
 /// No protection, and no protectionAlg.
 const NO_PROTECTION: &str =
@@ -107,7 +111,8 @@ fn each_message_has_its_verdict(rt: HostRuntime) -> Result<(), Fail> {
         (SHORT_SALT, Status::Refused, "refused badAlg\n"),
         (NO_ROUNDS, Status::Refused, "refused badAlg\n"),
         (MANY_ROUNDS, Status::Refused, "refused badAlg\n"),
-        (LATER_FORM, Status::Refused, "refused later form\n"),
+        (TIME_PUT_IN, Status::Refused, "refused badMessageCheck\n"),
+        (TIMED, Status::Done, "protection verified\n"),
         (NO_PROTECTION, Status::Refused, "refused badMessageCheck\n"),
         (NO_ALGORITHM, Status::Refused, "refused badMessageCheck\n"),
     ] {

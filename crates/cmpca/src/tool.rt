@@ -6,12 +6,12 @@ ghost use Rattle.cmpca.specs.declared.words.Command.TheVariants.{Verify, Show};
 ghost use Rattle.cmpca.specs.Words.{command_of, reads_input, reads_disk};
 ghost use Rattle.cmpca.specs.Reply.{Ran, Wrote, line};
 
-use crate::check::{check, verdict_is_caused};
+use crate::check::check;
 use crate::show::show;
 use crate::status::Status;
 use crate::words::{Command, read_words};
-use cmp_frame::MESSAGE_LIMIT;
 use cmp_ports::{Clock, Disk, Entropy, ReadError, Sink, Source, read_up_to, write_all};
+use pki_message::MESSAGE_LIMIT;
 use std::alloc::Global;
 
 /// What is written where memory runs out.
@@ -53,13 +53,12 @@ fn run_verify<S: Source, W: Sink>(
     ensures no_disk { result ≢ Status.DiskFault }
 {
     match read_up_to(alloc, input, MESSAGE_LIMIT) {
-        Ok(octets) => {
-            verdict_is_caused();
-            let verdict = check(secret, octets.as_slice());
-            finish(out, verdict.line(), verdict.status())
-        }
+        Ok(octets) => match check(alloc, secret, octets.as_slice()) {
+            Ok(verdict) => finish(out, verdict.line(), verdict.status()),
+            Err(_) => no_memory(out),
+        },
         Err(ReadError::Fault) => finish(out, b"read fault\n", Status::ReadFault),
-        Err(ReadError::NoMemory) => finish(out, NO_MEMORY, Status::NoMemory),
+        Err(ReadError::NoMemory) => no_memory(out),
     }
 }
 

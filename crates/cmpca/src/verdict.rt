@@ -8,9 +8,7 @@ use crate::status::Status;
 pub enum Verdict {
     /// The MAC is that of the protected part.
     Verified,
-    /// The header has a field that is not read yet.
-    LaterForm,
-    /// The octets are no frame.
+    /// The octets are no message.
     BadDataFormat,
     /// The protection is missing, or the algorithm that made it.
     Unprotected,
@@ -29,7 +27,6 @@ impl Verdict {
     {
         match self {
             Verdict::Verified => b"protection verified\n",
-            Verdict::LaterForm => b"refused later form\n",
             Verdict::BadDataFormat => b"refused badDataFormat\n",
             Verdict::Unprotected | Verdict::WrongMac => b"refused badMessageCheck\n",
             Verdict::BadAlg => b"refused badAlg\n",

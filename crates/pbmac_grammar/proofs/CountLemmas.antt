@@ -1,10 +1,12 @@
 -- The content of a count is read exactly where it stands for one within the limits.
-use Rattle.std.proofs.Common.{◌≡◌, ℕ, ◌+◌, ◌*◌, ◌<◌, ◌≤◌, ◌&&◌, Bool, true, false, cond, List, [], ◌∷◌, get_or, Option, Some, None, IsTrue, refl, sym, ◌∙◌, arith}
+use Rattle.std.proofs.Common.{◌≡◌, ℕ, ◌+◌, ◌*◌, ◌<◌, ◌≤◌, ◌&&◌, Bool, true, false, cond, eqb, List, [], ◌∷◌, get_or, Option, Some, None, Ok, Err, IsTrue, refl, sym, ◌∙◌, arith}
 use Rattle.std.specs.Prelude.{nat_le, nat_lt, fold}
 use Rattle.std.proofs.lemmas.Bool.Decides.{nat_tests}
-use Rattle.der_base.specs.Reading.{big_endian}
-use Rattle.der_base.specs.Values.{is_integer}
-use Rattle.asn_fields.proofs.FieldLemmas.{passed, none_some}
+use Rattle.der_base.specs.Reading.{part, big_endian}
+use Rattle.der_base.specs.Values.{is_integer, value_of}
+use Rattle.der_base.specs.declared.fault.DerFault.TheVariants.{BadTag, BadLength}
+use Rattle.asn_fields.specs.Fields.{ok_of}
+use Rattle.asn_fields.proofs.FieldLemmas.{passed, none_some, some_same}
 use Rattle.pbmac.specs.Params.{accepted, rounds_of}
 use Rattle.pbmac_grammar.specs.Pbmac1.{IsCount}
 
@@ -23,6 +25,15 @@ both_true false b p q = cc
 pub chosen : {X : Type 0} (b : Bool) (r : Option X) (y : X) → cond b r None ≡ Some y → (b ≡ true) × (r ≡ Some y)
 chosen true r y e = (refl, e)
 chosen false r y e = absurd (none_some y e)
+
+-- what a value that was read went through
+pub ok_by : {X : Type 0} (P : Type 0) → (s t : Bool) (v x : X) → ok_of (cond s (cond t (Ok v) (Err BadLength)) (Err BadTag)) ≡ Some x → (s ≡ true → t ≡ true → v ≡ x → P) → P
+ok_by P true true v x e go = go refl refl (some_same v x e)
+ok_by P true false v x e go = absurd (none_some x e)
+ok_by P false t v x e go = absurd (none_some x e)
+
+pub value_again : {X : Type 0} (tag : ℕ) (form : List ℕ → Bool) (value : List ℕ → X) (content : List ℕ) → form content ≡ true → value_of tag form value (part tag content) ≡ Ok (value content)
+value_again tag form value content h = let test : eqb tag tag ≡ true = grind (arith, nat_tests) in rw (test, h) refl
 
 -- what an accepted count passed
 record IsWithin (n m : ℕ) : Type 0 where

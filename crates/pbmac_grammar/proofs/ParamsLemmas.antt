@@ -10,14 +10,13 @@ use Rattle.der_base.specs.declared.fault.DerFault.{DerFault}
 use Rattle.asn_fields.specs.Fields.{◌>>=◌, ok_of, field_at, sole_at, optional_at}
 use Rattle.asn_fields.specs.Forms.{Above}
 use Rattle.asn_fields.proofs.FieldLemmas.{none_some, some_same, bound, passed, field_takes, field_reads, sole_takes, sole_reads, optional_above}
-use Rattle.pbmac.specs.Algorithm.{Algorithm, alg_inside}
+use Rattle.asn_types.specs.Algorithm.{Algorithm, algorithm_content}
+use Rattle.pbmac.specs.Algorithm.{alg_inside}
 use Rattle.pbmac.specs.Params.{pbmac1, pbkdf2_oid, rounds_of, behind_length, key_length_at, salt_at, count_at, sole_hmac_at, kdf_inside, inside_whole, inside_params, scheme_inside, params_at}
 use Rattle.pbmac.specs.declared.params.MacParams.{MacParams}
-use Rattle.frame_grammar.specs.Spelling.{alg_content}
-use Rattle.frame_grammar.proofs.PieceLemmas.{ok_by, value_again}
 use Rattle.pbmac_grammar.specs.Pbmac1.{IsHmac, IsCount, IsKdfContent, IsKdf, IsPbmac1, ParamsAreSpelled, ParamsAreOne}
-use Rattle.pbmac_grammar.proofs.CountLemmas.{both, chosen, count_takes, count_again}
-use Rattle.pbmac_grammar.proofs.PieceLemmas.{same_octets, octets_same, octets_element, alg_stands, alg_again, hmac_takes, hmac_again}
+use Rattle.pbmac_grammar.proofs.CountLemmas.{both, chosen, ok_by, value_again, count_takes, count_again}
+use Rattle.pbmac_grammar.proofs.PieceLemmas.{same_octets, octets_same, alg_stands, alg_again, hmac_takes, hmac_again}
 
 abbrev mac_params : List ℕ → ℕ → MacParams
 mac_params salt rounds = record { salt = salt; rounds = rounds }
@@ -159,12 +158,11 @@ kdf_takes content m e =
 kdf_again : (content salt : List ℕ) (rounds : ℕ) → IsKdfContent content salt rounds → kdf_inside content ≡ Some (mac_params salt rounds)
 unfolding kdf_inside
 kdf_again content salt rounds h =
-    let prf_is = octets_element h.prf h.is_prf.algorithm h.is_prf.is_algorithm in
     rw (
       h.parts,
       salt_again h.salt_element salt (h.count_element ++ (h.key_length ++ h.prf)) h.is_salt h.salt_least h.salt_most,
       counted_again h.count_element h.count (h.key_length ++ h.prf) rounds h.count_is h.is_count,
-      key_again h.key_length h.prf (alg_content h.is_prf.algorithm) prf_is h.is_key_length,
+      key_again h.key_length h.prf (algorithm_content h.is_prf.algorithm) h.is_prf.is_algorithm.alone h.is_key_length,
       hmac_again h.prf h.is_prf,
     ) refl
 
@@ -237,7 +235,7 @@ scheme_again : (kdf mac salt : List ℕ) (rounds : ℕ) → IsKdf kdf salt round
 unfolding scheme_inside
 scheme_again kdf mac salt rounds k h =
     rw (
-      field_reads 0x30 (kdf ++ mac) kdf (alg_content k.algorithm) mac (octets_element kdf k.algorithm k.is_algorithm) refl,
+      field_reads 0x30 (kdf ++ mac) kdf (algorithm_content k.algorithm) mac k.is_algorithm.alone refl,
       alg_again k.algorithm k.is_algorithm.fits,
       hmac_again mac h,
     )

@@ -1,17 +1,16 @@
 -- An algorithm, and HMAC-SHA-256, are read exactly where they are spelled.
-use Rattle.std.proofs.Common.{◌≡◌, ◌≢◌, ℕ, ◌%◌, ◌⊎◌, true, eqb, List, [], ◌∷◌, Option, Some, None, append-nil, eqb-true, refl, sym, ap, subst, inl, inr, ◌∙◌}
+use Rattle.std.proofs.Common.{◌≡◌, ℕ, ◌⊎◌, true, eqb, List, [], ◌∷◌, Option, Some, None, append-nil, eqb-true, refl, sym, ap, subst, inl, inr, ◌∙◌}
 use Rattle.std.specs.Str.{bytes_eq}
 use Rattle.std.proofs.lemmas.Slice.Eq.{bytes_eq-Decides}
 use Rattle.der_base.specs.Element.{IsElement}
 use Rattle.der_base.specs.Reading.{Part}
 use Rattle.der_base.proofs.ElementLemmas.{begins_no_other}
-use Rattle.asn_fields.specs.Fields.{◌>>=◌, sole_at}
+use Rattle.asn_fields.specs.Fields.{sole_at}
 use Rattle.asn_fields.proofs.FieldLemmas.{bound, passed, sole_takes, sole_reads}
-use Rattle.pbmac.specs.Algorithm.{Algorithm, alg_inside, alg_at}
+use Rattle.asn_types.specs.Algorithm.{Algorithm, FitsAlgorithm, algorithm_content}
+use Rattle.asn_types.proofs.AlgorithmLemmas.{algorithm_is_read}
+use Rattle.pbmac.specs.Algorithm.{alg_inside, alg_at}
 use Rattle.pbmac.specs.Params.{hmac_sha256, is_blank, is_hmac_sha256, sole_hmac_at}
-use Rattle.cmp_frame.specs.Header.{sole_alg_at}
-use Rattle.frame_grammar.specs.Spelling.{FitsAlgorithm, alg_content, alg_spelling}
-use Rattle.frame_grammar.proofs.PieceLemmas.{alg_form}
 use Rattle.pbmac_grammar.specs.Pbmac1.{IsAlgorithm, IsHmac, AlgorithmIsSpelled}
 use Rattle.pbmac_grammar.proofs.CountLemmas.{both, both_true, chosen}
 
@@ -22,27 +21,13 @@ pub octets_same : (xs ys : List ℕ) → xs ≡ ys → bytes_eq xs ys ≡ true
 octets_same xs ys h = (bytes_eq-Decides xs ys).1 h
 
 -- an algorithm
-low_sequence : 0x30 % 32 ≢ 31
-low_sequence h = cc
-
-pub alg_element : (a : Algorithm) → FitsAlgorithm a → IsElement (alg_spelling a) 0x30 (alg_content a)
-unfolding alg_spelling
-alg_element a fits = record { low_tag = low_sequence; counted = fits.whole; spelled = refl }
-
-pub octets_element : (octets : List ℕ) (a : Algorithm) → IsAlgorithm octets a → IsElement octets 0x30 (alg_content a)
-octets_element octets a h = subst (λ (l : List ℕ). IsElement l 0x30 (alg_content a)) (sym h.spelled) (alg_element a h.fits)
-
-sole_inside : (octets content : List ℕ) → IsElement octets 0x30 content → sole_alg_at octets ≡ alg_inside content
-unfolding sole_alg_at alg_at
-sole_inside octets content is = ap (λ (r : Option Part). r >>= alg_at) (sole_reads 0x30 octets content is)
-
 pub alg_stands : (octets content : List ℕ) (a : Algorithm) → IsElement octets 0x30 content → alg_inside content ≡ Some a → IsAlgorithm octets a
 alg_stands octets content a is e =
-    let t = alg_form.takes octets a (sole_inside octets content is ∙ e) in
-    record { fits = t.0; spelled = t.1 }
+    let t = algorithm_is_read.takes content a e in
+    record { fits = t.0; alone = subst (λ (l : List ℕ). IsElement octets 0x30 l) t.1 is }
 
-pub alg_again : (a : Algorithm) → FitsAlgorithm a → alg_inside (alg_content a) ≡ Some a
-alg_again a fits = sym (sole_inside (alg_spelling a) (alg_content a) (alg_element a fits)) ∙ alg_form.again a fits
+pub alg_again : (a : Algorithm) → FitsAlgorithm a → alg_inside (algorithm_content a) ≡ Some a
+alg_again a fits = algorithm_is_read.again a fits
 
 element_takes_alg : (p : Part) (a : Algorithm) → IsElement p.whole p.tag p.content → alg_at p ≡ Some a → IsAlgorithm p.whole a
 unfolding alg_at
@@ -56,8 +41,8 @@ alg_at_same p content t c = rw (t, c) refl
 
 element_gives_alg : (p : Part) (a : Algorithm) → IsElement p.whole p.tag p.content → IsAlgorithm p.whole a → alg_at p ≡ Some a
 element_gives_alg p a is h =
-    let same = begins_no_other p.whole p.whole [] [] p.tag 0x30 p.content (alg_content a) is (octets_element p.whole a h) refl in
-    alg_at_same p (alg_content a) same.1 same.2 ∙ alg_again a h.fits
+    let same = begins_no_other p.whole p.whole [] [] p.tag 0x30 p.content (algorithm_content a) is h.alone refl in
+    alg_at_same p (algorithm_content a) same.1 same.2 ∙ alg_again a h.fits
 
 pub algorithm_is_spelled : AlgorithmIsSpelled
 algorithm_is_spelled p a is = (element_takes_alg p a is, element_gives_alg p a is)
@@ -94,7 +79,7 @@ unfolding sole_hmac_at
 hmac_again bytes h =
     let a = h.algorithm in
     rw (
-      sole_reads 0x30 bytes (alg_content a) (octets_element bytes a h.is_algorithm),
+      sole_reads 0x30 bytes (algorithm_content a) h.is_algorithm.alone,
       alg_again a h.is_algorithm.fits,
       named_again a h.named h.params,
     ) refl

@@ -4,15 +4,15 @@ use Rattle.std.specs.Prelude.{◌≡◌, ℕ, ◌<◌, ◌≤◌, ◌++◌, ◌�
 use Rattle.der_base.specs.Element.{IsElement}
 use Rattle.der_base.specs.Reading.{Part, big_endian}
 use Rattle.der_base.specs.Values.{is_integer}
-use Rattle.pbmac.specs.Algorithm.{Algorithm, alg_at}
+use Rattle.asn_types.specs.Algorithm.{Algorithm, FitsAlgorithm, algorithm_content}
+use Rattle.pbmac.specs.Algorithm.{alg_at}
 use Rattle.pbmac.specs.Params.{pbmac1, pbkdf2_oid, hmac_sha256, params_at}
 use Rattle.pbmac.specs.declared.params.MacParams.{MacParams}
-use Rattle.frame_grammar.specs.Spelling.{FitsAlgorithm, alg_spelling}
 
--- The octets are the spelling of this AlgorithmIdentifier (RFC 5280, 4.1.1.2).
+-- The octets are the spelling of this AlgorithmIdentifier: its SEQUENCE (RFC 5280, 4.1.1.2).
 pub record IsAlgorithm (octets : List ℕ) (a : Algorithm) : Type 0 where
   pub fits : FitsAlgorithm a
-  pub spelled : octets ≡ alg_spelling a
+  pub alone : IsElement octets 0x30 (algorithm_content a)
 
 -- The octets name HMAC-SHA-256, with the parameters NULL or none (RFC 8018, B.1.2).
 pub record IsHmac (octets : List ℕ) : Type 0 where

@@ -1,6 +1,5 @@
 -- Each end of the run is a reply to what the disk holds.
-use Rattle.std.proofs.Common.{ℕ, List, Some, subst}
-use Rattle.cmpca.specs.Reply.{Wrote}
+use Rattle.std.proofs.Common.{ℕ, List, Some}
 use Rattle.cmpca.specs.declared.words.Command.TheVariants.{Show}
 use Rattle.cmpca.proofs.RunLemmas.{ran, no_memory_reply}
 use Rattle.cmpca.proofs.tool.run_show.Goals as goal

@@ -1,7 +1,0 @@
-use Rattle.std.proofs.Common.{◌≡◌}
-use Rattle.der_base.specs.Row.{items_of, items_left}
-use Rattle.cmp_frame.specs.Name.{every, is_relative}
-use Rattle.cmp_frame.proofs.name.is_name_inside.Given as goal
-
-abbrev pub invariant-loop-item : goal.invariant-loop-item
-invariant-loop-item l = every is_relative (items_of l.content) ≡ every is_relative (items_left l.item-iterator)

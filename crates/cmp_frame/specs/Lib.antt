@@ -1,4 +1,0 @@
-pub mod Name
-pub mod Header
-pub mod Frame
-pub mod LaterForm
