@@ -31,7 +31,7 @@ def of_tree(height: int) -> int:
 
 
 def growth(titles: list[str], least: list[dict[str, int]]) -> None:
-    for operation in ("grow {}", "sign {}, average leaf", "verify {}"):
+    for operation in ("grow {}", "sign {}, first leaf", "verify {}"):
         for low, high in zip(HEIGHTS, HEIGHTS[1:]):
             first, second = (operation.format(f"h{height} {SET}") for height in (low, high))
             parts = [f"{title} {side[second] / side[first]:.2f} times" for title, side in zip(titles, least)

@@ -75,6 +75,7 @@ public final class LmsBench {
                 times[leaf] = Math.min(times[leaf], System.nanoTime() - start);
             }
         }
+        show("sign " + set + ", first leaf", times[0]);
         show("sign " + set + ", cheapest leaf", Arrays.stream(times).min().getAsLong());
         show("sign " + set + ", average leaf", Arrays.stream(times).sum() / leaves);
     }

@@ -113,9 +113,8 @@ fn main(rt: HostRuntime) -> io::Result<()> {
         }
         let (nanos, key) = grow_time(&rt, rt.alloc(), tree.set, tree.turns)?;
         println!(rt; "grow {}\t{nanos}", tree.name)?;
-        let [cheapest, average, verified] = signature_times(&rt, &key, &mut seen)?;
-        println!(rt; "sign {}, cheapest leaf\t{cheapest}", tree.name)?;
-        println!(rt; "sign {}, average leaf\t{average}", tree.name)?;
+        let (signed, verified) = signature_times(&rt, &key, &mut seen)?;
+        println!(rt; "sign {}, first leaf\t{signed}", tree.name)?;
         println!(rt; "verify {}\t{verified}", tree.name)?;
     }
     println!(rt; "seen {seen}")?;

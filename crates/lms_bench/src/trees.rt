@@ -41,9 +41,6 @@ pub const TREES: [Timing; 4] = [
     },
 ];
 
-/// How many leaves of a tree sign, and how often each of them signs and its signature is verified.
-const LEAVES: u32 = 25;
-
 const SIGNATURES: u32 = 20;
 
 /// How many hashes of one block a turn has, and how many turns there are.
@@ -78,7 +75,7 @@ pub fn four_compressions_time<C: Clock>(clock: &C, seen: &mut u8) -> io::Result<
         }
         least = least.min(start.elapsed(clock)?.as_nanos() / u128::from(HASHES));
     }
-    *seen ^= state[0].as_array()[0] as u8;
+    *seen ^= state[0].as_array()[0].to_le_bytes()[0];
     Ok(least)
 }
 
@@ -109,25 +106,10 @@ fn grow(alloc: Global, set: Set) -> io::Result<TreeKey> {
     }
 }
 
-/// The nanoseconds of signing by the cheapest of some leaves and by the average one, and of verifying.
-pub fn signature_times<C: Clock>(clock: &C, key: &TreeKey, seen: &mut u8) -> io::Result<[u128; 3]> {
-    let mut cheapest = u128::MAX;
-    let mut sum = 0u128;
-    let mut verifying = u128::MAX;
-    for leaf in 0..LEAVES {
-        let (signed, verified) = leaf_times(clock, key, leaf, seen)?;
-        cheapest = cheapest.min(signed);
-        sum = sum.wrapping_add(signed);
-        verifying = verifying.min(verified);
-    }
-    Ok([cheapest, sum / u128::from(LEAVES), verifying])
-}
-
-// The nanoseconds of signing by a leaf and of verifying its signature, the least of some turns each.
-fn leaf_times<C: Clock>(
+/// The nanoseconds of signing by the first leaf and of verifying, the least of some turns each.
+pub fn signature_times<C: Clock>(
     clock: &C,
     key: &TreeKey,
-    leaf: u32,
     seen: &mut u8,
 ) -> io::Result<(u128, u128)> {
     let public = key.public();
@@ -135,7 +117,7 @@ fn leaf_times<C: Clock>(
     let mut verifying = u128::MAX;
     for _ in 0..SIGNATURES {
         let start = Instant::now(clock)?;
-        let Ok(sig) = key.sign(leaf, TEXT) else {
+        let Ok(sig) = key.sign(0, TEXT) else {
             return Err(io::Error::from(io::ErrorKind::OutOfMemory));
         };
         signing = signing.min(start.elapsed(clock)?.as_nanos());
