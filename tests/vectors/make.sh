@@ -21,6 +21,7 @@ python3 "$here/journal_vectors.py" >"$out/journals.txt"
 python3 "$here/log_vectors.py" >"$out/logs.txt"
 python3 "$here/near_certs.py" >"$out/near_certs.txt"
 python3 "$here/neighbours.py" >"$out/neighbours.txt"
+python3 "$here/ask_vectors.py" >"$out/asks.txt"
 if command -v openssl >/dev/null; then
     "$here/openssl_certs.sh" >"$out/openssl_certs.txt"
     "$here/pkcs10.sh" >"$out/pkcs10.txt"
@@ -28,7 +29,7 @@ else
     echo "skipped: openssl_certs.txt and pkcs10.txt (no openssl)"
 fi
 echo "hmac.txt, frames.txt, frame.der, changes.txt, histories.txt, rules.txt, lines.txt, journals.txt, logs.txt,"
-echo "near_certs.txt and neighbours.txt are made"
+echo "near_certs.txt, neighbours.txt and asks.txt are made"
 
 jars=${BCJARS:-/usr/share/java}
 path=$jars/bcprov.jar:$jars/bcutil.jar

@@ -1,0 +1,7 @@
+-- by what the reader finds, and that it finds it alone
+use Rattle.pki_message.specs.Message.{message_of}
+use Rattle.intake.proofs.Letters.{reading_is}
+use Rattle.intake.proofs.asking.message_in.Goals as goal
+
+pub returns-in-Ok : goal.returns-in-Ok
+returns-in-Ok c = reading_is c.args.bytes.now (message_of c.in-Ok.message) c.in-Ok.ensures.found c.in-Ok.ensures.only
