@@ -1,0 +1,4 @@
+pub mod AlgorithmLemmas
+pub mod BackLemmas
+pub mod CheckLemmas
+pub mod SizeLemmas

@@ -1,0 +1,5 @@
+use Rattle.protect.proofs.SizeLemmas.{signed_bound}
+use Rattle.protect.proofs.write.signed.Goals as goal
+
+pub returns-clause-short : goal.returns-clause-short
+returns-clause-short g c = signed_bound c.sign_at.result _ c.args.text.now c.sign_at.ensures.valid
