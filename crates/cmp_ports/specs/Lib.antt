@@ -9,6 +9,7 @@ pub mod MemSink
 pub mod MemSource
 pub mod Moments
 pub mod Orders
+pub mod Reasons
 pub mod Replay
 pub mod ReplayLaws
 pub mod Schedule

@@ -26,6 +26,10 @@ pub trait Disk {
     /// How often the disk has failed.
     ghost faults: { Self → ℕ };
 
+    /// The loan by which a lent disk is held, by its number; that of a disk that is owned stays the same number. A call keeps it,
+    /// so whoever lent the disk knows at the end that it is this one.
+    ghost loan: { Self → ℕ };
+
     /// The number of octets.
     fn size(&mut self) -> Result<u64, Failed>
         ensures length { IfOk result (λ n. (f : List ℕ) → content self.old ≡ Some f → n ≡ length f) }
@@ -33,7 +37,8 @@ pub trait Disk {
         ensures crash { Among (images self.old) (images self.new) }
         ensures kept { Among (images self.new) (images self.old) }
         ensures time { Elapses (moment self.old) (moment self.new) (left_since self.old) (left_since self.new) (images self.new) }
-        ensures cause { HasCause (faults self.old) (faults self.new) result };
+        ensures cause { HasCause (faults self.old) (faults self.new) result }
+        ensures loan { loan self.new ≡ loan self.old };
 
     /// Reads octets from an offset on into the front of `into`, and answers how many: 0 for a non-empty `into` only
     /// at or past the end.
@@ -45,7 +50,8 @@ pub trait Disk {
         ensures crash { Among (images self.old) (images self.new) }
         ensures kept { Among (images self.new) (images self.old) }
         ensures time { Elapses (moment self.old) (moment self.new) (left_since self.old) (left_since self.new) (images self.new) }
-        ensures cause { HasCause (faults self.old) (faults self.new) result };
+        ensures cause { HasCause (faults self.old) (faults self.new) result }
+        ensures loan { loan self.new ≡ loan self.old };
 
     /// Writes over what is there from an offset on, and past the end.
     fn write_at(&mut self, at: u64, bytes: &[u8]) -> Result<(), Failed>
@@ -54,7 +60,8 @@ pub trait Disk {
         ensures written { OnOk result (content self.new ≡ option_map (overwritten at bytes.now) (content self.old)) }
         ensures crash { Follows (Torn at (length bytes.now)) (images self.old) (images self.new) }
         ensures time { Elapses (moment self.old) (moment self.new) (left_since self.old) (left_since self.new) (images self.new) }
-        ensures cause { HasCause (faults self.old) (faults self.new) result };
+        ensures cause { HasCause (faults self.old) (faults self.new) result }
+        ensures loan { loan self.new ≡ loan self.old };
 
     /// Brings what was written to the disk.
     fn sync(&mut self) -> Result<(), Failed>
@@ -62,7 +69,8 @@ pub trait Disk {
         ensures same { content self.new ≡ content self.old }
         ensures crash { Among (images self.old) (images self.new) }
         ensures time { Elapses (moment self.old) (moment self.new) (left_since self.old) (left_since self.new) (images self.new) }
-        ensures cause { HasCause (faults self.old) (faults self.new) result };
+        ensures cause { HasCause (faults self.old) (faults self.new) result }
+        ensures loan { loan self.new ≡ loan self.old };
 
     /// This moment is one of those since an earlier one.
     ghost counts_now: { (d : Self) (t : ℕ) (c : List ℕ) → t ≤ moment d → images d c → left_since d t c };
@@ -84,6 +92,8 @@ impl<D: Disk> Disk for &mut D {
     ghost left_since = { λ d. D.left_since d.now };
 
     ghost faults = { λ d. D.faults d.now };
+
+    ghost loan = { λ d. d.ghost_name };
 
     ghost counts_now = { λ d. D.counts_now d.now };
 

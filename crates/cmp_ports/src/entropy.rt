@@ -1,5 +1,5 @@
 //! Random octets.
-ghost use Rattle.std.specs.Prelude.{ℕ, List, Option};
+ghost use Rattle.std.specs.Prelude.{◌≡◌, ℕ, List, Option};
 ghost use Rattle.cmp_ports.specs.Coming.{Gives, drawn};
 ghost use Rattle.cmp_ports.specs.Faults.{HasCause};
 
@@ -14,10 +14,14 @@ pub trait Entropy {
     // How many calls of the object failed. It never falls, and stays at the greatest u64.
     ghost faults: { Self → ℕ };
 
+    // The loan by which a lent object is held, by its number; that of one that is owned stays the same number.
+    ghost loan: { Self → ℕ };
+
     /// Draws 32 octets. A `Failed` comes only where the count of faults rose.
     fn draw(&mut self, into: &mut [u8; 32]) -> Result<(), Failed>
         ensures draws { Gives (draws self.old) (draws self.new) (drawn result into.new) }
-        ensures cause { HasCause (faults self.old) (faults self.new) result };
+        ensures cause { HasCause (faults self.old) (faults self.new) result }
+        ensures loan { loan self.new ≡ loan self.old };
 }
 
 /// A source of random octets that is lent.
@@ -25,6 +29,8 @@ impl<E: Entropy> Entropy for &mut E {
     ghost draws = { λ e. E.draws e.now };
 
     ghost faults = { λ e. E.faults e.now };
+
+    ghost loan = { λ e. e.ghost_name };
 
     fn draw(&mut self, into: &mut [u8; 32]) -> Result<(), Failed> {
         (**self).draw(into)

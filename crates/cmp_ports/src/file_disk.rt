@@ -97,6 +97,8 @@ impl<R: Files<File = File> + Drop> Disk for FileDisk<R> {
 
     ghost faults = { λ d. d.faults };
 
+    ghost loan = { λ _. 0 };
+
     ghost counts_now = { λ _ _ _ _ now. now };
 
     ghost only_now = { λ _ _ left. left };

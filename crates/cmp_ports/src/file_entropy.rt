@@ -51,6 +51,8 @@ impl<R: Files<File = File> + Drop> Entropy for FileEntropy<R> {
 
     ghost faults = { λ e. e.faults };
 
+    ghost loan = { λ _. 0 };
+
     fn draw(&mut self, into: &mut [u8; 32]) -> Result<(), Failed> {
         let answer = fill(&self.files, self.path.as_str(), &mut self.file, into);
         counted(&mut self.faults, answer)

@@ -38,6 +38,8 @@ impl Clock for ListClock {
 
     ghost readings = { λ c. Some (readings_of c) };
 
+    ghost loan = { λ _. 0 };
+
     fn now(&mut self) -> u64 {
         if self.at < self.times.len() {
             self.last = self.times[self.at].min(LATEST);

@@ -58,6 +58,8 @@ impl Entropy for ListEntropy {
 
     ghost faults = { λ e. draw_faults e };
 
+    ghost loan = { λ _. 0 };
+
     fn draw(&mut self, into: &mut [u8; 32]) -> Result<(), Failed> {
         self.schedule.call()?;
         if self.at == self.draws.len() {

@@ -122,6 +122,8 @@ impl Disk for MemDisk {
 
     ghost faults = { memory_faults };
 
+    ghost loan = { λ _. 0 };
+
     ghost counts_now = { counts_now };
 
     ghost only_now = { only_now };

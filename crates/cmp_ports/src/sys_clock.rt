@@ -21,6 +21,8 @@ impl<R: rt::Clock + Drop> SysClock<R> {
 impl<R: rt::Clock + Drop> Clock for SysClock<R> {
     ghost readings = { λ _. None };
 
+    ghost loan = { λ _. 0 };
+
     fn now(&mut self) -> u64 {
         match self.clock.since_1970() {
             Ok(time) => time.as_secs().min(LATEST),
