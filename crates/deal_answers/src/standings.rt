@@ -88,7 +88,8 @@ pub fn owner_of(h: &[Change], kind: Kind, kid: &[u8]) -> Option<Owner>
     }
 }
 
-fn is_confirmed(state: Option<CertificateState>) -> bool
+/// Whether a certificate is confirmed.
+pub fn is_confirmed(state: Option<CertificateState>) -> bool
     ensures { result ≡ is_confirmed state }
 {
     match state {

@@ -21,8 +21,9 @@ const MOST_CHANGES: usize = 262_144;
 /// The last second that a clock may say.
 const LATEST: u64 = 250_000_000_000;
 
+/// The time of the last change, in seconds since 1970; 0 where there is none.
 #[tactic(auto, using(crate::proofs::Histories::last_time))]
-fn time_of(h: &[Change]) -> u64
+pub fn time_of(h: &[Change]) -> u64
     ensures { result ≡ time_of h.now }
 {
     match h {

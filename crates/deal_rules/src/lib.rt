@@ -12,5 +12,9 @@ mod sizes;
 #[cfg(test)]
 mod tests;
 
-pub use allowed::{is_allowed, is_legal};
+pub use allowed::{is_allowed, is_legal, time_of};
 pub use forms::is_change;
+pub use requests::is_owner;
+pub use rules::{issue_leaves, reply_leaf, reply_leaves};
+pub use senders::{ENROL, HOLD, REVOKE, has_right, same_who};
+pub use sizes::has_room;

@@ -90,7 +90,7 @@ pub(crate) fn is_grantee(h: &[Change], s: &Stamp) -> bool
 }
 
 /// Whether the certificate with this serial number was granted to the sender.
-pub(crate) fn is_owner(h: &[Change], who: &Who, serial: u64) -> bool
+pub fn is_owner(h: &[Change], who: &Who, serial: u64) -> bool
     ensures { result ≡ is_granted_to who.now (find (is_grant_of serial) h.now) }
 {
     is_granted_to(who, grant_of(h, serial))

@@ -17,7 +17,7 @@ use deal_model::{Body4, CertificateState, Change, DealState, Key, Kind, Stamp, W
 
 /// The leaves of the key that signs certificates; 0 where nothing was founded.
 #[tactic(auto, unfolding(deal_model::specs::Keys::leaves_of, deal_model::specs::Keys::tree_of))]
-fn issue_leaves(h: &[Change]) -> u32
+pub fn issue_leaves(h: &[Change]) -> u32
     ensures { result ≡ leaves_of (settings_of h.now).issue_key }
 {
     match founding(h) {
@@ -28,7 +28,7 @@ fn issue_leaves(h: &[Change]) -> u32
 
 /// The leaves of the key that signs replies; 0 where nothing was founded.
 #[tactic(auto, unfolding(deal_model::specs::Keys::leaves_of, deal_model::specs::Keys::tree_of))]
-fn reply_leaves(h: &[Change]) -> u32
+pub fn reply_leaves(h: &[Change]) -> u32
     ensures { result ≡ leaves_of (settings_of h.now).reply_key }
 {
     match founding(h) {
@@ -38,7 +38,7 @@ fn reply_leaves(h: &[Change]) -> u32
 }
 
 /// The leaf that signs the reply to this sender; none where a secret protects it.
-fn reply_leaf(h: &[Change], who: &Who) -> Option<u64>
+pub fn reply_leaf(h: &[Change], who: &Who) -> Option<u64>
     requires { length h.now ≤ 262144 }
     ensures { result ≡ reply_leaf h.now who.now }
 {

@@ -8,13 +8,14 @@ use deal_answers::standing_of_who;
 use deal_model::{Change, Stamp, Standing, Who};
 
 /// The right to enrol.
-pub(crate) const ENROL: u8 = 1;
+pub const ENROL: u8 = 1;
 /// The right to revoke what is another's.
-pub(crate) const REVOKE: u8 = 8;
+pub const REVOKE: u8 = 8;
 /// What makes requests wait for an order.
-pub(crate) const HOLD: u8 = 16;
+pub const HOLD: u8 = 16;
 
-pub(crate) fn same_who(a: &Who, b: &Who) -> bool
+/// Whether two senders are the same.
+pub fn same_who(a: &Who, b: &Who) -> bool
     ensures { result ≡ same_who a.now b.now }
 {
     match (a, b) {
@@ -58,7 +59,7 @@ pub(crate) fn rights_of(h: &[Change], s: &Stamp) -> Option<u8>
 }
 
 /// Whether these rights have this one.
-pub(crate) fn has_right(right: u8, rights: Option<u8>) -> bool
+pub fn has_right(right: u8, rights: Option<u8>) -> bool
     requires { 0 < right }
     ensures { result ≡ has_right right rights }
 {

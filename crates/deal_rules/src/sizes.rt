@@ -139,7 +139,7 @@ fn log_size(h: &[Change]) -> usize
 }
 
 /// Whether a log with the changes and this one has at most 2^30 octets.
-pub(crate) fn has_room(h: &[Change], c: &Change) -> bool
+pub fn has_room(h: &[Change], c: &Change) -> bool
     ensures { IsTrue result ↔ (log_size h.now + size_of c.now ≤ 2 ^ 30) }
 {
     log_size(h).saturating_add(size_of(c)) <= MOST_OCTETS

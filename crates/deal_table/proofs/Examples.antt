@@ -18,7 +18,7 @@ use Rattle.deal_model.specs.declared.states.Owner.{Owner}
 use Rattle.deal_table.specs.Carry.{Carries}
 use Rattle.deal_model.specs.Keys.{tree_of, leaves_of, key_id, key_of, is_lms_key}
 use Rattle.deal_model.specs.Views.{History, same, owner_of, standing_of, at_first, after_lapse, after_settled, after_revoke, certificate_state, after_grant, transaction_state, last_nonce, leaves_used}
-use Rattle.deal_table.specs.declared.fail.FailInfo.TheVariants.{BadAlg, BadMessageCheck, BadRequest, BadTime, BadCertId, BadDataFormat, BadPop, CertRevoked, CertConfirmed, WrongIntegrity, BadRecipientNonce, BadSenderNonce, BadCertTemplate, SignerNotTrusted, TransactionIdInUse, UnsupportedVersion, NotAuthorized, SystemUnavail, DuplicateCertReq}
+use Rattle.cmp_ports.specs.declared.fail_info.FailInfo.TheVariants.{BadAlg, BadMessageCheck, BadRequest, BadTime, BadCertId, BadDataFormat, BadPop, CertRevoked, CertConfirmed, WrongIntegrity, BadRecipientNonce, BadSenderNonce, BadCertTemplate, SignerNotTrusted, TransactionIdInUse, UnsupportedVersion, NotAuthorized, SystemUnavail, DuplicateCertReq}
 use Rattle.deal_table.specs.History.{place_of_digest, deal_of, receipt_at, grant_receipt}
 use Rattle.deal_table.specs.Message.{Zero, MinusOne, OtherId, Named, Enrolment, Confirmation, Polling, Withdrawal, Body, Enrols, Confirms, Polls, Withdraws, Nests, OtherBody, Header, Facts, Letter}
 use Rattle.deal_table.specs.Served.{decision_so_far}

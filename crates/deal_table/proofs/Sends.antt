@@ -14,7 +14,7 @@ use Rattle.deal_model.specs.declared.states.Owner.{Owner}
 use Rattle.deal_model.specs.declared.states.Standing.{Standing}
 use Rattle.deal_model.specs.declared.states.Standing.TheVariants.{Unknown, OtherKind, Barred, Good}
 use Rattle.deal_model.specs.Views.{History, is_told, time_of}
-use Rattle.deal_table.specs.declared.fail.FailInfo.{FailInfo}
+use Rattle.cmp_ports.specs.declared.fail_info.FailInfo.{FailInfo}
 use Rattle.deal_table.specs.History.{Receipted, Deal, Begins, name_of, skew_of, place_of_digest, event_time, grant_receipt, owner_for, standing_for}
 use Rattle.deal_table.specs.Message.{Compares, Confirmation, Body, Enrols, Confirms, Polls, Withdraws, Nests, OtherBody, is_nested, Header, Facts, Letter, subject_of, blind}
 use Rattle.deal_table.specs.Table.{Row, To, Decision, Makes, Repeats, Refuses, Asks, Event, Sent, unless, bare, guard_by, guarded, known, protection_rows, check_rows, time_rows, standing_now, trusted_by, trusted, old_rows, new_rows, party_rows, confirm_rows, poll_rows, entry_rows, reason_rows, revoke_rows, wish_rows, key_rows, proof_rows, is_possessed, enrolled, polled, poll_made, deal_certificate, state_now, deal_now, tid_of, status_rows, compared, compared_with, settles, stamp_by, room_rows, made, about, repeated, passed, served_rows, form_rows, header_rows, wrap_rows, read, opened, decision}

@@ -6,7 +6,7 @@ use Rattle.deal_model.specs.declared.asking.Job.TheVariants.{Repeat, Enrol, Conf
 use Rattle.deal_model.specs.declared.asking.Checked.{Checked}
 use Rattle.deal_model.specs.declared.states.Owner.{Owner}
 use Rattle.deal_model.specs.Views.{History, is_barred}
-use Rattle.deal_table.specs.declared.fail.FailInfo.TheVariants.{BadRequest, BadTime, NotAuthorized}
+use Rattle.cmp_ports.specs.declared.fail_info.FailInfo.TheVariants.{BadRequest, BadTime, NotAuthorized}
 use Rattle.deal_table.specs.History.{name_of, skew_of, place_of_digest, event_time, owner_for}
 use Rattle.deal_table.specs.Message.{Body, is_nested, Header, Facts, Letter, subject_of}
 use Rattle.deal_table.specs.Table.{To, Decision, Refuses, Repeats, Event, unless, pass, bare, guard_by, guarded, is_apart, form_rows, header_rows, is_served, time_rows, trusted, about, repeated, passed, nested_count, wrap_rows, may_wrap, read, opened, decision}

@@ -13,7 +13,7 @@ use Rattle.deal_model.specs.declared.asking.Checked.{Checked}
 use Rattle.deal_model.specs.declared.states.Standing.TheVariants.{Good}
 use Rattle.deal_table.specs.Looked.{IsAskOf, IsRefusedByLook, looked_to}
 use Rattle.deal_table.specs.declared.look.Look.{Look}
-use Rattle.deal_table.specs.declared.fail.FailInfo.{FailInfo}
+use Rattle.cmp_ports.specs.declared.fail_info.FailInfo.{FailInfo}
 use Rattle.deal_table.specs.History.{Receipted, IsFounded, secret_of, Begins, name_of, look_of, deal_of, place_of, owner_for, event_time, receipt_at, grant_receipt}
 use Rattle.deal_table.specs.Message.{Compares, FitsMessage, Letter, subject_of, blind}
 use Rattle.deal_table.specs.Table.{To, Decision, is_unused, is_deal, Makes, Refuses, Asks, decision}

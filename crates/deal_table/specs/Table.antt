@@ -23,8 +23,8 @@ use Rattle.deal_model.specs.declared.states.Standing.TheVariants.{Unknown, Other
 use Rattle.deal_model.specs.Keys.{leaves_of, key_id, key_of}
 use Rattle.deal_model.specs.Views.{History, same, settings_of, is_grant_for, is_grant_of, is_confirmed, is_key_taken, certificate_state, transaction_state, is_told, last_nonce, leaves_used, leaves_in}
 use Rattle.deal_model.specs.Rules.{same_who, has_right, is_granted_to, reply_leaf}
-use Rattle.deal_table.specs.declared.fail.FailInfo.{FailInfo}
-use Rattle.deal_table.specs.declared.fail.FailInfo.TheVariants.{BadAlg, BadMessageCheck, BadRequest, BadTime, BadCertId, BadDataFormat, BadPop, CertRevoked, CertConfirmed, WrongIntegrity, BadRecipientNonce, BadSenderNonce, BadCertTemplate, SignerNotTrusted, TransactionIdInUse, UnsupportedVersion, NotAuthorized, SystemUnavail, DuplicateCertReq}
+use Rattle.cmp_ports.specs.declared.fail_info.FailInfo.{FailInfo}
+use Rattle.cmp_ports.specs.declared.fail_info.FailInfo.TheVariants.{BadAlg, BadMessageCheck, BadRequest, BadTime, BadCertId, BadDataFormat, BadPop, CertRevoked, CertConfirmed, WrongIntegrity, BadRecipientNonce, BadSenderNonce, BadCertTemplate, SignerNotTrusted, TransactionIdInUse, UnsupportedVersion, NotAuthorized, SystemUnavail, DuplicateCertReq}
 use Rattle.deal_table.specs.History.{Receipted, Deal, name_of, skew_of, place_of_digest, deal_of, grant_receipt, event_time, standing_for, is_full}
 use Rattle.deal_table.specs.Message.{RequestId, Zero, MinusOne, OtherId, Named, Enrolment, Confirmation, Polling, Withdrawal, Body, Enrols, Confirms, Polls, Withdraws, Nests, OtherBody, is_nested, is_version, Header, Facts, Letter}
 

@@ -5,11 +5,9 @@
 //! answer. What was checked at the look is a message again, of which less is left to be asked, so the same table decides it.
 #![tactic(auto)]
 
-mod fail;
 mod laws;
 mod look;
 
-pub use fail::FailInfo;
 pub use laws::{
     what_a_look_tells, what_is_left_decides, what_is_made_is_allowed, what_is_served_is_whole,
     what_is_settled_stays, what_legal_histories_say,

@@ -1,7 +1,6 @@
 //! How a message is decided.
 
 use crate::receipt::Receipt;
-use deal_table::FailInfo;
 
 /// What is decided of a message. Places count the changes of the history, and times are seconds since 1970.
 #[derive(Drop)]

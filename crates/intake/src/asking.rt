@@ -11,10 +11,9 @@ ghost use Rattle.intake.specs.Intake.{IsIntake};
 
 use crate::header::{echo, fault, kid, kind, transaction};
 use crate::request::Request;
-use cmp_ports::Short;
+use cmp_ports::{FailInfo, Short};
 use deal_changes::Kind;
 use deal_model::{Ask, Echo};
-use deal_table::FailInfo;
 use pki_message::{Body, Message, read_message};
 use sha2::{Digest, Sha256};
 

@@ -10,10 +10,9 @@ ghost use Rattle.intake.specs.Headers.{kind_of, kid_of, header_of};
 ghost use Rattle.intake.specs.Made.{FirstApplies};
 
 use asn_types::{AlgorithmId, HSS_LMS};
-use cmp_ports::Short;
+use cmp_ports::{FailInfo, Short};
 use deal_changes::Kind;
 use deal_model::Echo;
-use deal_table::FailInfo;
 use pbmac::read_params;
 use pki_header::Header;
 

@@ -1,9 +1,8 @@
 //! Messages at the limits of what a header must have, by Python from X.690 (tests/vectors/ask_vectors.py).
 
 use crate::{Intake, ask_of};
-use cmp_ports::Short;
+use cmp_ports::{FailInfo, Short};
 use deal_changes::Kind;
-use deal_table::FailInfo;
 use std::process::Abort;
 use std::test::Fail;
 

@@ -1,31 +1,8 @@
 -- Reasons of refusal (PKIFailureInfo, RFC 9810, 5.2.3).
 use Rattle.std.specs.Prelude.{◌≡◌, ℕ, ◌-◌, ◌/◌, ◌%◌, ◌^◌, ◌≤◌, ◌++◌, ◌==◌, Bool, false, IsTrue, [], ◌∷◌, replicate, slice_index_or, Option, Some, None}
 use Rattle.der_base.specs.Values.{BitString}
-use Rattle.pki_parts.specs.declared.fail_info.FailInfo.{FailInfo}
-use Rattle.pki_parts.specs.declared.fail_info.FailInfo.TheVariants as reason
-
--- the bit of each
-abbrev pub bit_of : FailInfo → ℕ
-bit_of reason.BadAlg = 0
-bit_of reason.BadMessageCheck = 1
-bit_of reason.BadRequest = 2
-bit_of reason.BadTime = 3
-bit_of reason.BadCertId = 4
-bit_of reason.BadDataFormat = 5
-bit_of reason.BadPop = 9
-bit_of reason.CertRevoked = 10
-bit_of reason.CertConfirmed = 11
-bit_of reason.WrongIntegrity = 12
-bit_of reason.BadRecipientNonce = 13
-bit_of reason.BadSenderNonce = 18
-bit_of reason.BadCertTemplate = 19
-bit_of reason.SignerNotTrusted = 20
-bit_of reason.TransactionIdInUse = 21
-bit_of reason.UnsupportedVersion = 22
-bit_of reason.NotAuthorized = 23
-bit_of reason.SystemUnavail = 24
-bit_of reason.SystemFailure = 25
-bit_of reason.DuplicateCertReq = 26
+use Rattle.cmp_ports.specs.declared.fail_info.FailInfo.{FailInfo}
+use Rattle.cmp_ports.specs.Reasons.{bit_of}
 
 -- The string of bits that ends with this one, and has no other one. Bits are counted from the highest of the first octet
 -- (X.690, 8.6.2.1 and 11.2.2).

@@ -20,7 +20,7 @@ pub use asn_fields::BadForm;
 pub use cert_rep::{CertRep, CertResponse, read_cert_rep, write_cert_rep};
 pub use confirmation::{CertConfirm, CertStatus, read_confirm, write_confirm};
 pub use error::{ErrorMsg, read_error, write_error};
-pub use fail_info::FailInfo;
+pub use fail_info::first_reason;
 pub use polling::{
     PollEntry, PollRep, PollReq, read_poll_rep, read_poll_req, write_poll_rep, write_poll_req,
 };

@@ -5,7 +5,7 @@ ghost use Rattle.std.specs.Option.{option_copied};
 ghost use Rattle.pki_parts.specs.Status.{option_size};
 
 use crate::{
-    CertResponse, FailInfo, StatusInfo, read_cert_rep, read_error, read_status, write_cert_rep,
+    CertResponse, StatusInfo, first_reason, read_cert_rep, read_error, read_status, write_cert_rep,
     write_error, write_status,
 };
 use cmp_ports::Octets;
@@ -176,7 +176,7 @@ fn each_reason_is_one_bit(rt: HostRuntime) -> Result<(), Fail> {
         assert_eq!(rt; fail.bit(), *bit);
         assert_eq!(rt; FailInfo::of_bit(*bit), Some(*fail));
         let string = bits(&whole(octets)?)?;
-        assert_eq!(rt; FailInfo::first_in(&string), Some(*fail));
+        assert_eq!(rt; first_reason(&string), Some(*fail));
         let status = write_status(rt.alloc(), 2, None, Some(*fail))?;
         assert!(rt; status.as_slice().ends_with(octets), "{bit}");
     }
@@ -191,7 +191,7 @@ fn check_denied(rt: &impl Abort, status: &StatusInfo<'_>) -> Result<(), Fail> {
     assert_eq!(rt; status.status, b"\x02".as_slice());
     assert_eq!(rt; status.text, Some(b"\x0c\x06denied".as_slice()));
     let string = status.fail.ok_or("no reasons")?;
-    assert_eq!(rt; FailInfo::first_in(&string), Some(FailInfo::NotAuthorized));
+    assert_eq!(rt; first_reason(&string), Some(FailInfo::NotAuthorized));
     Ok(())
 }
 
@@ -201,7 +201,7 @@ fn reads_and_writes_statuses(rt: HostRuntime) -> Result<(), Fail> {
     let two = read_status(&whole(TWO_REASONS)?)?;
     assert_eq!(rt; two.text, None);
     let string = two.fail.ok_or("no reasons")?;
-    assert_eq!(rt; FailInfo::first_in(&string), Some(FailInfo::BadTime));
+    assert_eq!(rt; first_reason(&string), Some(FailInfo::BadTime));
     let accepted = read_status(&whole(ACCEPTED)?)?;
     assert_eq!(rt; accepted.status, b"\x00".as_slice());
     assert_eq!(rt; accepted.fail, None);

@@ -8,7 +8,6 @@ ghost use Rattle.asn_fields.specs.Forms.{optional_spelling};
 ghost use Rattle.asn_types.specs.Template.{same};
 ghost use Rattle.asn_parts.specs.Parts.{required_with};
 
-use crate::fail_info::FailInfo;
 use crate::texts::texts_field;
 use asn_fields::{BadForm, Entry, field, optional};
 use asn_parts::{integer_field, number};

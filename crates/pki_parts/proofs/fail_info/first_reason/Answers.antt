@@ -1,9 +1,10 @@
 -- the first reason that is found is the lowest one
 use Rattle.std.proofs.Common.{ℕ, ◌≤◌, IsTrue, sym, subst, arith}
 use Rattle.der_base.specs.Values.{bit_string_of}
-use Rattle.pki_parts.specs.FailInfo.{bit_of, is_set}
+use Rattle.cmp_ports.specs.Reasons.{bit_of}
+use Rattle.pki_parts.specs.FailInfo.{is_set}
 use Rattle.pki_parts.proofs.FailLemmas.{from_next, none_set}
-use Rattle.pki_parts.proofs.fail_info.FailInfo.first_in.Goals as goal
+use Rattle.pki_parts.proofs.fail_info.first_reason.Goals as goal
 
 pub loop-bit-init : goal.loop-bit-init
 loop-bit-init c = λ fail h. omega arith
