@@ -1,8 +1,7 @@
 //! Points at which others may watch an answer.
 
-use std::rt;
-use std::thread;
 use std::time::Duration;
+use std::{rt, thread};
 
 /// How far an answer is, or that there is nothing to do.
 #[derive(Clone, Copy, Debug, PartialEq, Eq)]
