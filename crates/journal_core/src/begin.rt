@@ -20,6 +20,7 @@ fn look<D: Disk>(disk: &mut D) -> Result<(u64, bool), Failed>
     ensures crash { Among (D.images disk.old) (D.images disk.new) }
     ensures moments { LeavesOnly D.moment D.left_since disk.old disk.new (D.images disk.old) }
     ensures cause { HasCause (D.faults disk.old) (D.faults disk.new) result }
+    ensures loan { D.loan disk.new ≡ D.loan disk.old }
 {
     disk.sync()?;
     let size = disk.size()?;
@@ -34,6 +35,7 @@ fn first_is_one<D: Disk>(disk: &mut D) -> Result<bool, Failed>
     ensures crash { Among (D.images disk.old) (D.images disk.new) }
     ensures moments { LeavesOnly D.moment D.left_since disk.old disk.new (D.images disk.old) }
     ensures cause { HasCause (D.faults disk.old) (D.faults disk.new) result }
+    ensures loan { D.loan disk.new ≡ D.loan disk.old }
 {
     let mut first = [0u8; 1];
     let count = disk.read_at(0, &mut first)?;
@@ -70,6 +72,7 @@ impl Journal {
         ensures fault { IsErrOf result PrepareFault.DiskFault → Rose (D.faults disk.old) (D.faults disk.new) }
         ensures later { D.faults disk.old ≤ D.faults disk.new }
         ensures kept { OnOk result (D.faults disk.new ≡ D.faults disk.old) }
+        ensures loan { D.loan disk.new ≡ D.loan disk.old }
     {
         let (size, open) = match look(disk) {
             Ok(seen) => seen,
@@ -109,6 +112,7 @@ impl Journal {
         ensures later { D.faults disk.old ≤ D.faults disk.new }
         ensures kept { OnOk result (D.faults disk.new ≡ D.faults disk.old) }
         ensures memory { IsErrOf result BeginFault.NoMemory → disk.new ≡ disk.old }
+        ensures loan { D.loan disk.new ≡ D.loan disk.old }
     {
         let octets = match beginning(alloc, magic, first) {
             Ok(octets) => octets,

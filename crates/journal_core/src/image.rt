@@ -42,6 +42,7 @@ fn read_piece<D: Disk>(
     ensures fault { IsErrOf result ImageFault.Failed → Rose (D.faults disk.old) (D.faults disk.new) }
     ensures later { D.faults disk.old ≤ D.faults disk.new }
     ensures kept { OnOk result (D.faults disk.new ≡ D.faults disk.old) }
+    ensures loan { D.loan disk.new ≡ D.loan disk.old }
 {
     let at = image.len();
     match disk.read_at(at as u64, piece) {
@@ -70,6 +71,7 @@ fn read_rest<D: Disk>(
     ensures fault { IsErrOf result ImageFault.Failed → Rose (D.faults disk.old) (D.faults disk.new) }
     ensures later { D.faults disk.old ≤ D.faults disk.new }
     ensures kept { OnOk result (D.faults disk.new ≡ D.faults disk.old) }
+    ensures loan { D.loan disk.new ≡ D.loan disk.old }
 {
     'pieces: while (image.len() as u64) < size {
         if !read_piece(disk, image, piece)? {
@@ -88,6 +90,7 @@ pub(crate) fn read_image<D: Disk>(alloc: Global, disk: &mut D) -> Result<Vec<u8>
     ensures fault { IsErrOf result ImageFault.Failed → Rose (D.faults disk.old) (D.faults disk.new) }
     ensures later { D.faults disk.old ≤ D.faults disk.new }
     ensures kept { OnOk result (D.faults disk.new ≡ D.faults disk.old) }
+    ensures loan { D.loan disk.new ≡ D.loan disk.old }
 {
     let size = match disk.size() {
         Ok(size) => size,

@@ -58,6 +58,7 @@ impl Journal {
         ensures fault { IsErrOf result AppendFault.DiskFault → Rose (D.faults disk.old) (D.faults disk.new) }
         ensures later { D.faults disk.old ≤ D.faults disk.new }
         ensures kept { OnOk result (D.faults disk.new ≡ D.faults disk.old) }
+        ensures loan { D.loan disk.new ≡ D.loan disk.old }
     {
         let octets = entry.octets();
         let growth = octets.len() as u64;
@@ -105,6 +106,7 @@ impl Journal {
             → LeavesOnly D.moment D.left_since disk.old disk.new (IsBeforeOrAfter magic payloads payload) }
 
         ensures cause { HasCause (D.faults disk.old) (D.faults disk.new) result }
+        ensures loan { D.loan disk.new ≡ D.loan disk.old }
     {
         match self.doubt {
             Doubt::Gate => match write_through(disk, self.end, &[0]) {

@@ -35,6 +35,7 @@ impl Journal {
         ensures fault { IsErrOf result MountFault.DiskFault → Rose (D.faults disk.old) (D.faults disk.new) }
         ensures later { D.faults disk.old ≤ D.faults disk.new }
         ensures kept { OnOk result (D.faults disk.new ≡ D.faults disk.old) }
+        ensures loan { D.loan disk.new ≡ D.loan disk.old }
     {
         match disk.sync() {
             Ok(()) => {}

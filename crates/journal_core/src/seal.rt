@@ -25,6 +25,7 @@ pub(crate) fn write_through<D: Disk>(disk: &mut D, at: u64, octets: &[u8]) -> Re
     ensures written { OnOk result (Follows (λ d c. c ≡ overwritten at octets.now d) (D.images disk.old) (D.images disk.new)) }
     ensures moments { LeavesOnly D.moment D.left_since disk.old disk.new (Reached (Torn at (length octets.now)) (D.images disk.old)) }
     ensures cause { HasCause (D.faults disk.old) (D.faults disk.new) result }
+    ensures loan { D.loan disk.new ≡ D.loan disk.old }
 {
     disk.write_at(at, octets)?;
     disk.sync()
@@ -41,6 +42,7 @@ pub(crate) fn seal<D: Disk>(disk: &mut D, gate: u64, octets: &[u8]) -> Result<()
     ensures before { (front body : List ℕ) → IsBodyFor front body octets.now gate (D.images disk.old)
         → IsErrOf result Unsealed.Before → LeavesOnly D.moment D.left_since disk.old disk.new (ClosedAfter front) }
     ensures cause { HasCause (D.faults disk.old) (D.faults disk.new) result }
+    ensures loan { D.loan disk.new ≡ D.loan disk.old }
 {
     // On the disk before the gate is opened: what stands behind an open gate counts.
     match write_through(disk, gate + 1, octets) {

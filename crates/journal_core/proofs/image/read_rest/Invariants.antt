@@ -9,6 +9,7 @@ invariant-pieces g l = record {
   same : g.D.Disk.content l.disk ≡ g.D.Disk.content l.fn.disk;
   crash : Among (g.D.Disk.images l.fn.disk) (g.D.Disk.images l.disk);
   moments : LeavesOnly g.D.Disk.moment g.D.Disk.left_since l.fn.disk l.disk (g.D.Disk.images l.fn.disk);
+  loan : g.D.Disk.loan l.disk ≡ g.D.Disk.loan l.fn.disk;
   faults : g.D.Disk.faults l.disk ≡ g.D.Disk.faults l.fn.disk;
 }
 
