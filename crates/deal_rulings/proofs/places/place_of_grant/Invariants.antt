@@ -1,0 +1,11 @@
+-- The place is looked for in what is left.
+use Rattle.std.proofs.Common.{◌≡◌, ◌+◌, ◌≤◌, length}
+use Rattle.std.specs.List.{position_from}
+use Rattle.deal_model.specs.Views.{is_grant_for}
+use Rattle.deal_rulings.proofs.places.place_of_grant.Given as goal
+
+abbrev pub invariant-loop-rest : goal.invariant-loop-rest
+invariant-loop-rest l = (position_from (is_grant_for l.tid) 1 l.h ≡ position_from (is_grant_for l.tid) l.place l.rest) × (l.place + length l.rest ≡ 1 + length l.h) × (1 ≤ l.place)
+
+abbrev pub decreases-loop-rest : goal.decreases-loop-rest
+decreases-loop-rest l = length l.rest
