@@ -1,6 +1,7 @@
 //! How a message is decided.
 
 use crate::receipt::Receipt;
+use cmp_ports::FailInfo;
 
 /// What is decided of a message. Places count the changes of the history, and times are seconds since 1970.
 #[derive(Drop)]
