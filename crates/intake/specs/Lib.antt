@@ -5,4 +5,5 @@ pub mod Bodies
 pub mod Holds
 pub mod Letter
 pub mod Made
+pub mod Told
 pub mod Intake
