@@ -1,0 +1,47 @@
+-- A key file and its parts.
+use Rattle.std.specs.Prelude.{ℕ, ◌≡◌, ◌+◌, ◌≤◌, List, ◌++◌, length, take, drop, Option, None, Some, IfSome, Result, Ok, Err, refl}
+use Rattle.std.proofs.Common.{sym, ◌∙◌, ap, subst, arith, length-drop, length-take-le, inl, inr}
+use Rattle.std.proofs.lemmas.List.{take-append-drop, drop-drop, take_all}
+use Rattle.std.proofs.lemmas.Bool.{cases_lt}
+use Rattle.reply_maker.specs.KeyFile.{IsKeyFile, key_file, issue_seed, issue_id, reply_seed, reply_id}
+use Rattle.reply_maker.specs.declared.key_file.KeyFile.{KeyFile}
+use Rattle.reply_maker.specs.declared.key_file.KeyFault.{KeyFault}
+use Rattle.reply_maker.specs.declared.key_file.KeyFault.TheVariants.{BadKeyFile}
+use Rattle.reply_maker.specs.Parts.{HasParts, joined, GivesParts, IsRead}
+
+-- the parts of 96 octets are the octets
+joined_parts : (o : List ℕ) → length o ≡ 96 → key_file (issue_seed o) (issue_id o) (reply_seed o) (reply_id o) ≡ o
+joined_parts o size =
+    let last : length (drop 80 o) ≤ 16 = omega (arith, length-drop 80 o) in
+    let d : take 16 (drop 80 o) ≡ drop 80 o = take_all 16 (drop 80 o) last in
+    let c : take 32 (drop 48 o) ++ drop 80 o ≡ drop 48 o =
+        ap (λ (l : List ℕ). take 32 (drop 48 o) ++ l) (sym (drop-drop 32 48 o)) ∙ take-append-drop 32 (drop 48 o) in
+    let b : take 16 (drop 32 o) ++ drop 48 o ≡ drop 32 o =
+        ap (λ (l : List ℕ). take 16 (drop 32 o) ++ l) (sym (drop-drop 16 32 o)) ∙ take-append-drop 16 (drop 32 o) in
+    ap (λ (l : List ℕ). take 32 o ++ (take 16 (drop 32 o) ++ (take 32 (drop 48 o) ++ l))) d
+    ∙ ap (λ (l : List ℕ). take 32 o ++ (take 16 (drop 32 o) ++ l)) c
+    ∙ ap (λ (l : List ℕ). take 32 o ++ l) b
+    ∙ take-append-drop 32 o
+
+-- a file with parts is the file of its parts
+pub joined_is : (file : List ℕ) (k : KeyFile) → HasParts file k → joined k ≡ file
+joined_is file k h =
+    ap (λ (l : List ℕ). l ++ (k.issue.id ++ (k.reply.seed ++ k.reply.id))) h.issue_seed
+    ∙ ap (λ (l : List ℕ). issue_seed file ++ (l ++ (k.reply.seed ++ k.reply.id))) h.issue_id
+    ∙ ap (λ (l : List ℕ). issue_seed file ++ (issue_id file ++ (l ++ k.reply.id))) h.reply_seed
+    ∙ ap (λ (l : List ℕ). issue_seed file ++ (issue_id file ++ (reply_seed file ++ l))) h.reply_id
+    ∙ joined_parts file h.form.size
+
+-- one octet past the size tells as much as all octets
+long_bad : (file : List ℕ) → 97 ≤ length file → IsKeyFile file → ⊥
+long_bad file long form = omega (arith, form.size)
+
+front_parts : (all octets : List ℕ) (r : Result KeyFile KeyFault) → octets ≡ take 97 all → GivesParts octets r → GivesParts all r
+front_parts all octets r read h = elim (cases_lt 96 (length all)) [
+  | inl long ↦ ?
+  | inr short ↦ subst (λ (l : List ℕ). GivesParts l r) (read ∙ take_all 97 all (omega arith)) h
+]
+
+pub is_read : (left : Option (List ℕ)) (octets : List ℕ) (r : Result KeyFile KeyFault) → IfSome left (λ all. octets ≡ take 97 all) → GivesParts octets r → IsRead left r
+is_read None octets r read h = record { file = octets; read = tt; gives = h }
+is_read (Some all) octets r read h = record { file = all; read = refl; gives = front_parts all octets r read h }

@@ -1,0 +1,10 @@
+//! The authority's own keys, grown from its key file, with the certificates that it has under them.
+#![tactic(auto)]
+
+mod key_file;
+mod keys;
+//#[cfg(test)]
+//mod tests;
+
+pub use key_file::KeyFault;
+pub use keys::Keys;
