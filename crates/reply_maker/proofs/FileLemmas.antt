@@ -6,7 +6,7 @@ use Rattle.std.proofs.lemmas.Bool.{cases_lt}
 use Rattle.reply_maker.specs.KeyFile.{IsKeyFile, key_file, issue_seed, issue_id, reply_seed, reply_id}
 use Rattle.reply_maker.specs.declared.key_file.KeyFile.{KeyFile}
 use Rattle.reply_maker.specs.declared.key_file.KeyFault.{KeyFault}
-use Rattle.reply_maker.specs.declared.key_file.KeyFault.TheVariants.{BadKeyFile}
+use Rattle.reply_maker.specs.declared.key_file.KeyFault.TheVariants.{ReadFault, BadKeyFile, KeyMismatch, NoMemory}
 use Rattle.reply_maker.specs.Parts.{HasParts, joined, GivesParts, IsRead}
 
 -- the parts of 96 octets are the octets
@@ -36,9 +36,18 @@ joined_is file k h =
 long_bad : (file : List ℕ) → 97 ≤ length file → IsKeyFile file → ⊥
 long_bad file long form = omega (arith, form.size)
 
+long_parts : (all octets : List ℕ) (r : Result KeyFile KeyFault) → 97 ≤ length all → 97 ≤ length octets → GivesParts octets r → GivesParts all r
+long_parts all octets (Ok k) long read h = absurd (long_bad octets read h.form)
+long_parts all octets (Err BadKeyFile) long read h = long_bad all long
+long_parts all octets (Err ReadFault) long read h = tt
+long_parts all octets (Err NoMemory) long read h = tt
+long_parts all octets (Err (KeyMismatch told known)) long read h = h
+
 front_parts : (all octets : List ℕ) (r : Result KeyFile KeyFault) → octets ≡ take 97 all → GivesParts octets r → GivesParts all r
 front_parts all octets r read h = elim (cases_lt 96 (length all)) [
-  | inl long ↦ ?
+  | inl long ↦
+      let size : 97 ≤ length octets = omega (arith, ap length read, length-take-le 97 all (omega arith)) in
+      long_parts all octets r (omega arith) size h
   | inr short ↦ subst (λ (l : List ℕ). GivesParts l r) (read ∙ take_all 97 all (omega arith)) h
 ]
 
