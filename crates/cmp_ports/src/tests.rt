@@ -1,6 +1,7 @@
 //! Streams in memory and over std's readers and writers, at their ends, at the limit and at a fault in their midst.
 
 mod lists;
+mod reasons;
 
 use crate::{MemSink, MemSource, ReadSource, Source, WriteSink, read_up_to, write_all};
 use std::test::Fail;

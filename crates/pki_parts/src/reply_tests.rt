@@ -8,7 +8,7 @@ use crate::{
     CertResponse, StatusInfo, first_reason, read_cert_rep, read_error, read_status, write_cert_rep,
     write_error, write_status,
 };
-use cmp_ports::Octets;
+use cmp_ports::{FailInfo, Octets};
 use der_base::{Element, bits, whole};
 use std::alloc::Global;
 use std::process::Abort;
