@@ -1,0 +1,10 @@
+//! The certificates of the service (RFC 5280, 4.1), under HSS/LMS (RFC 9802): the authority's own, that of its replies, and those
+//! that it grants.
+#![tactic(auto)]
+
+mod extensions;
+mod plans;
+mod tbs;
+
+pub use plans::{reply_plan, root_plan};
+pub use tbs::tbs_of_plan;
