@@ -6,4 +6,5 @@ pub mod Holds
 pub mod Letter
 pub mod Made
 pub mod Told
+pub mod Laws
 pub mod Intake

@@ -1,13 +1,16 @@
 -- What the readers of bodies tell, as facts. No clause of a public call reads these words.
-use Rattle.std.specs.Prelude.{◌≡◌, ℕ, ◌≤◌, Bool, false, is_some, List, length, Option, Some, None, IfSome, option_map}
+use Rattle.std.specs.Prelude.{◌≡◌, ℕ, ◌+◌, ◌*◌, ◌≤◌, ◌||◌, Bool, false, is_some, find, List, length, fold, Option, Some, None, IfSome, option_map}
+use Rattle.std.specs.List.{list_any}
 use Rattle.std.specs.Option.{option_copied}
 use Rattle.std.specs.Str.{bytes_eq}
+use Rattle.asn_types.specs.Extension.{ExtensionForm}
 use Rattle.asn_types.specs.Key.{Key, FitsKey, key_content, key_of}
 use Rattle.deal_changes.specs.declared.change.Wish.{Wish}
 use Rattle.deal_table.specs.History.{Receipted}
 use Rattle.deal_table.specs.Message.{RequestId, Zero, MinusOne, OtherId, Named, Enrolment, Confirmation, Polling, Withdrawal, Body, Enrols, Confirms, Polls, Withdraws, Nests, OtherBody}
 use Rattle.pki_message.specs.Frame.{message_limit}
 use Rattle.intake.specs.Bodies.{wish_of}
+use Rattle.intake.specs.Wishes.{stands_twice}
 use Rattle.intake.specs.declared.bodies.ReqId.{ReqId}
 use Rattle.intake.specs.declared.bodies.ReqId.TheVariants as id
 use Rattle.intake.specs.declared.bodies.CertName.{CertName}
@@ -74,11 +77,17 @@ pub record FitsAskedKey (k : Key) : Type 0 where
   pub form : FitsKey k
   pub counted : length (key_content k) ≤ message_limit
 
+abbrev pub IsLimited : List ℕ → Type 0
+IsLimited octets = length octets ≤ message_limit
+
 -- What is asked for is no longer than a message, so a wish of it can be spelled.
-pub record FitsAsked (a : Asked) : Type 0 where
-  pub subject : IfSome (option_copied a.subject) (λ octets. length octets ≤ message_limit)
-  pub key : IfSome (option_map key_of a.key) FitsAskedKey
-  pub exts : IfSome (option_copied a.exts) (λ octets. length octets ≤ message_limit)
+pub record AreLimited (subject : Option (List ℕ)) (key : Option Key) (exts : Option (List ℕ)) : Type 0 where
+  pub subject_counted : IfSome subject IsLimited
+  pub key_fits : IfSome key FitsAskedKey
+  pub exts_counted : IfSome exts IsLimited
+
+abbrev pub FitsAsked : Asked → Type 0
+FitsAsked a = AreLimited (option_copied a.subject) (option_map key_of a.key) (option_copied a.exts)
 
 abbrev pub FitsAbout : About → Type 0
 FitsAbout (about.Enrols e) = FitsAsked e.asked
@@ -87,3 +96,32 @@ FitsAbout (about.Polls p) = Unit {0}
 FitsAbout (about.Withdraws w) = Unit {0}
 FitsAbout (about.Nests count) = Unit {0}
 FitsAbout about.Other = Unit {0}
+
+-- ---- what loops have found so far
+
+-- a number, and octets behind it
+abbrev pub shifted : ℕ → List ℕ → ℕ
+shifted n octets = fold (λ n b. n * 256 + b) n octets
+
+-- what was found before, or what is found later
+abbrev pub either : {X : Type 0} → Option X → Option X → Option X
+either (Some x) later = Some x
+either None later = later
+
+-- one of the entries passes a test, or one did before; none does where one of them can't be read
+abbrev pub any_in : {X : Type 0} → (X → Bool) → Bool → Option (List X) → Bool
+any_in test found None = false
+any_in test found (Some xs) = found || list_any test xs
+
+-- the first one that passes it
+abbrev pub first_in : {X : Type 0} → (X → Bool) → Option X → Option (List X) → Option X
+first_in test found None = None
+first_in test found (Some xs) = either found (find test xs)
+
+abbrev pub same_oid : List ℕ → ExtensionForm → Bool
+same_oid oid x = bytes_eq oid x.oid
+
+-- one of the extensions stands twice
+abbrev pub twice_in : Bool → Option (List ExtensionForm) → Bool
+twice_in found None = false
+twice_in found (Some xs) = found || stands_twice xs
