@@ -36,6 +36,7 @@ impl<D: Disk> Desk<D> {
         ensures still { OnErr result (IsSome self.old.doubt × (self.new.doubt ≡ self.old.doubt)) }
         ensures moments { LeavesOnly D.moment D.left_since self.old.disk self.new.disk (RecoversWith self.old.history.items (IsDoubt self.old.doubt)) }
         ensures cause { HasCause (D.faults self.old.disk) (D.faults self.new.disk) result }
+        ensures loan { D.loan self.new.disk ≡ D.loan self.old.disk }
     {
         if self.doubt.is_none() {
             return Ok(());
@@ -60,6 +61,7 @@ impl<D: Disk> Desk<D> {
         ensures moments { LeavesOnly D.moment D.left_since self.old.disk self.new.disk (RecoversWith self.old.history.items (λ x. x ≡ c)) }
         ensures fault { result ≡ Added.DiskFault → Rose (D.faults self.old.disk) (D.faults self.new.disk) }
         ensures later { D.faults self.old.disk ≤ D.faults self.new.disk }
+        ensures loan { D.loan self.new.disk ≡ D.loan self.old.disk }
     {
         match self.journal.append(&mut self.disk, entry) {
             Ok(()) => match self.history.push(c) {
@@ -81,6 +83,7 @@ impl<D: Disk> Desk<D> {
         ensures moments { LeavesOnly D.moment D.left_since self.old.disk self.new.disk (RecoversWith self.old.history.items (DoubtOr self.old.doubt (λ x. x ≡ c))) }
         ensures fault { result ≡ Added.DiskFault → Rose (D.faults self.old.disk) (D.faults self.new.disk) }
         ensures later { D.faults self.old.disk ≤ D.faults self.new.disk }
+        ensures loan { D.loan self.new.disk ≡ D.loan self.old.disk }
     {
         let alloc = *self.history.allocator();
         let record = match record_of(alloc, &c) {

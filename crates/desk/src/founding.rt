@@ -74,6 +74,7 @@ fn begin<D: Disk>(alloc: Global, disk: &mut D, first: &[u8]) -> Result<Journal, 
     ensures moments { LeavesOnly D.moment D.left_since disk.old disk.new (IsBegun (D.images disk.old) first.now) }
     ensures fault { IsErrOf result FoundFault.DiskFault → Rose (D.faults disk.old) (D.faults disk.new) }
     ensures later { D.faults disk.old ≤ D.faults disk.new }
+    ensures loan { D.loan disk.new ≡ D.loan disk.old }
 {
     match Journal::prepare(disk) {
         Ok(()) => {}
@@ -102,6 +103,7 @@ impl<D: Disk> Desk<D> {
         // A stop at any moment leaves an image from before the call, a disk that isn't founded, or one with this change.
         ensures moments { MatchResult result (λ d. LeavesOnly D.moment D.left_since disk d.disk (IsBegun (D.images disk) (spelling (founding settings.now now)))) (λ r. LeavesOnly D.moment D.left_since disk r.0 (IsBegun (D.images disk) (spelling (founding settings.now now)))) }
         ensures fault { IfErr result (λ r. r.1 ≡ FoundFault.DiskFault → Rose (D.faults disk) (D.faults r.0)) }
+        ensures loan { MatchResult result (λ d. D.loan d.disk ≡ D.loan disk) (λ r. D.loan r.0 ≡ D.loan disk) }
     {
         let mut disk = disk;
         let (history, octets) = match first_change(alloc, settings, now) {

@@ -79,6 +79,7 @@ impl<D: Disk> Desk<D> {
         ensures moments { LeavesOnly D.moment D.left_since self.old.disk self.new.disk (RecoversWith self.old.history.items (DoubtOr self.old.doubt (IsLapse self.old.history.items (event_time self.old.history.items now)))) }
         ensures fault { result ≡ Lapsed.DiskFault → Rose (D.faults self.old.disk) (D.faults self.new.disk) }
         ensures later { D.faults self.old.disk ≤ D.faults self.new.disk }
+        ensures loan { D.loan self.new.disk ≡ D.loan self.old.disk }
     {
         let changes = self.changes();
         let time = event_time(changes, now);

@@ -65,6 +65,7 @@ impl<D: Disk> Desk<D> {
         ensures moments { LeavesOnly D.moment D.left_since self.old.disk self.new.disk (RecoversWith self.old.history.items (DoubtOr self.old.doubt (IsEnlisting list.now (event_time self.old.history.items now)))) }
         ensures fault { result ≡ Listing.DiskFault → Rose (D.faults self.old.disk) (D.faults self.new.disk) }
         ensures later { D.faults self.old.disk ≤ D.faults self.new.disk }
+        ensures loan { D.loan self.new.disk ≡ D.loan self.old.disk }
     {
         let changes = self.changes();
         let time = event_time(changes, now);
@@ -88,6 +89,7 @@ impl<D: Disk> Desk<D> {
         ensures moments { LeavesOnly D.moment D.left_since self.old.disk self.new.disk (RecoversWith self.old.history.items (DoubtOr self.old.doubt (IsDismissal kind kid.now (event_time self.old.history.items now)))) }
         ensures fault { result ≡ Listing.DiskFault → Rose (D.faults self.old.disk) (D.faults self.new.disk) }
         ensures later { D.faults self.old.disk ≤ D.faults self.new.disk }
+        ensures loan { D.loan self.new.disk ≡ D.loan self.old.disk }
     {
         let changes = self.changes();
         let time = event_time(changes, now);

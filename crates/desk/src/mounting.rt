@@ -75,6 +75,7 @@ pub fn history_on<D: Disk>(alloc: Global, disk: &mut D) -> Result<Vec<Change>, M
     ensures fault { IsErrOf result MountFault.DiskFault → Rose (D.faults disk.old) (D.faults disk.new) }
     ensures kept { OnOk result (D.faults disk.new ≡ D.faults disk.old) }
     ensures later { D.faults disk.old ≤ D.faults disk.new }
+    ensures loan { D.loan disk.new ≡ D.loan disk.old }
 {
     let (_, payloads) = Journal::mount(alloc, disk, &MAGIC)?;
     let history = replay(alloc, payloads.as_slice())?;
@@ -95,6 +96,7 @@ impl<D: Disk> Desk<D> {
         ensures moments { MatchResult result (λ d. LeavesOnly D.moment D.left_since disk d.disk (D.images disk)) (λ r. LeavesOnly D.moment D.left_since disk r.0 (D.images disk)) }
         ensures fault { IfErr result (λ r. r.1 ≡ MountFault.DiskFault → Rose (D.faults disk) (D.faults r.0)) }
         ensures later { MatchResult result (λ d. D.faults d.disk ≡ D.faults disk) (λ r. D.faults disk ≤ D.faults r.0) }
+        ensures loan { MatchResult result (λ d. D.loan d.disk ≡ D.loan disk) (λ r. D.loan r.0 ≡ D.loan disk) }
     {
         let mut disk = disk;
         let (journal, payloads) = match Journal::mount(alloc, &mut disk, &MAGIC) {
