@@ -8,10 +8,12 @@ ghost use Rattle.desk.specs.Calls.{Fits, IsAdded};
 
 use crate::answers::Added;
 use crate::desk::Desk;
+use crate::mark::FaultMark;
 use cmp_ports::Disk;
 use deal_model::{Change, write_change};
 use journal_core::{AppendFault, DiskFault, Record};
 use std::alloc::{AllocError, Global};
+use std::snapshot::Snapshot;
 
 /// The most octets of a payload.
 const MOST_OCTETS: usize = 0x4000_0000;
@@ -98,5 +100,24 @@ impl<D: Disk> Desk<D> {
             Ok(()) => self.append(c, &record),
             Err(_) => Added::DiskFault,
         }
+    }
+
+    /// Adds a change that may come next, and keeps a mark where the disk failed.
+    pub(crate) fn add_marked(&mut self, c: Change) -> Added
+        requires { Fits self.old.history.items c }
+        ensures ends { IsAdded self.old.history.items self.old.doubt c result self.new.history.items self.new.doubt }
+        ensures moments { LeavesOnly D.moment D.left_since self.old.disk self.new.disk (RecoversWith self.old.history.items (DoubtOr self.old.doubt (λ x. x ≡ c))) }
+        ensures fault { result ≡ Added.DiskFault → Rose (D.faults self.old.disk) (D.faults self.new.disk) }
+        ensures later { D.faults self.old.disk ≤ D.faults self.new.disk }
+        ensures loan { D.loan self.new.disk ≡ D.loan self.old.disk }
+        ensures mark { MatchOption self.new.mark (result ≢ Added.DiskFault) (λ m. (result ≡ Added.DiskFault) × (m.before.value ≡ self.old.disk) × (m.after.value ≡ self.new.disk)) }
+    {
+        let before = Snapshot::of(&self.disk);
+        let added = self.add(c);
+        self.mark = match added {
+            Added::DiskFault => Some(FaultMark::of(before, Snapshot::of(&self.disk))),
+            _ => None,
+        };
+        added
     }
 }

@@ -1,8 +1,9 @@
 //! A desk: one history, on its disk and in memory.
-ghost use Rattle.std.specs.Prelude.{◌≡◌, ◌-◌, ◌≤◌, length, IfSome, Some, slice_get};
+ghost use Rattle.std.specs.Prelude.{◌≡◌, ◌-◌, ◌≤◌, length, IfSome, Some, None, slice_get};
 ghost use Rattle.deal_model.specs.Rules.{Allowed, Legal};
 ghost use Rattle.desk.specs.Images.{Keeps, Images};
 
+use crate::mark::FaultMark;
 use cmp_ports::Disk;
 use deal_model::Change;
 use journal_core::Journal;
@@ -15,6 +16,7 @@ pub struct Desk<D: Disk> {
     pub(crate) journal: Journal,
     pub(crate) history: Vec<Change>,
     pub(crate) doubt: Option<Change>,
+    pub(crate) mark: Option<FaultMark<D>>,
     ghost kept: { ∥ Keeps history.items doubt journal (D.images disk) ∥₁ },
     ghost lawful: { ∥ Legal history.items × IfSome doubt (Allowed history.items) ∥₁ },
 }
@@ -42,6 +44,17 @@ impl<D: Disk> Desk<D> {
         ensures images { Images (D.images self.now.disk) self.now.history.items self.now.doubt }
         ensures lawful { ∥ Legal self.now.history.items × IfSome self.now.doubt (Allowed self.now.history.items) ∥₁ }
     {}
+
+    /// The mark of the last decide, lapse or order, where the disk failed under it and its mark wasn't taken yet.
+    pub fn fault(&mut self) -> Option<FaultMark<D>>
+        ensures taken { result ≡ self.old.mark }
+        ensures none { self.new.mark ≡ None }
+        ensures disk { self.new.disk ≡ self.old.disk }
+        ensures history { self.new.history ≡ self.old.history }
+        ensures doubt { self.new.doubt ≡ self.old.doubt }
+    {
+        self.mark.take()
+    }
 
     /// The disk.
     pub fn into_disk(self) -> D

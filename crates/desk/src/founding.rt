@@ -116,6 +116,7 @@ impl<D: Disk> Desk<D> {
                 journal,
                 history,
                 doubt: None,
+                mark: None,
             }),
             Err(fault) => Err((disk, fault)),
         }

@@ -1,5 +1,5 @@
 //! Takes back the next certificate that wasn't confirmed in time.
-ghost use Rattle.std.specs.Prelude.{◌≡◌, ◌≤◌, length, MatchOption};
+ghost use Rattle.std.specs.Prelude.{◌≡◌, ◌≢◌, ◌≤◌, length, MatchOption};
 ghost use Rattle.cmp_ports.specs.Disk.{LeavesOnly};
 ghost use Rattle.cmp_ports.specs.Faults.{Rose};
 ghost use Rattle.deal_model.specs.Views.{AreTimely, is_empty, time_of};
@@ -80,13 +80,15 @@ impl<D: Disk> Desk<D> {
         ensures fault { result ≡ Lapsed.DiskFault → Rose (D.faults self.old.disk) (D.faults self.new.disk) }
         ensures later { D.faults self.old.disk ≤ D.faults self.new.disk }
         ensures loan { D.loan self.new.disk ≡ D.loan self.old.disk }
+        ensures mark { MatchOption self.new.mark (result ≢ Lapsed.DiskFault) (λ m. (result ≡ Lapsed.DiskFault) × (m.before.value ≡ self.old.disk) × (m.after.value ≡ self.new.disk)) }
     {
+        self.mark = None;
         let changes = self.changes();
         let time = event_time(changes, now);
         let Some(due) = due_by(changes, time) else {
             return Lapsed::Nothing;
         };
-        let added = self.add(Change::Lapse { time, tid: due.tid });
+        let added = self.add_marked(Change::Lapse { time, tid: due.tid });
         lapse_end(added, self.length(), due.tid)
     }
 }

@@ -3,6 +3,7 @@
 
 mod adding;
 mod answers;
+mod chronicle;
 mod clerk;
 mod desk;
 mod due;
@@ -10,6 +11,7 @@ mod founding;
 mod lapsing;
 mod listing;
 mod looking;
+mod mark;
 mod mounting;
 mod ordering;
 mod places;
@@ -20,6 +22,7 @@ pub use answers::{FoundFault, Lapsed, Listing, Ordered};
 pub use clerk::Clerk;
 pub use desk::Desk;
 pub use journal_core::MountFault;
+pub use mark::{FaultMark, FaultMarks};
 pub use mounting::history_on;
 pub use receipt::Receipt;
 pub use verdict::Verdict;

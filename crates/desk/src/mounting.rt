@@ -109,6 +109,7 @@ impl<D: Disk> Desk<D> {
                 journal,
                 history,
                 doubt: None,
+                mark: None,
             }),
             Err(fault) => Err((disk, fault)),
         }

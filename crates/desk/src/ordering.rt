@@ -1,5 +1,5 @@
 //! Obeys the operator's orders on held requests.
-ghost use Rattle.std.specs.Prelude.{◌≡◌, ◌≤◌, ◌↔◌, IsTrue, MatchOption};
+ghost use Rattle.std.specs.Prelude.{◌≡◌, ◌≢◌, ◌≤◌, ◌↔◌, IsTrue, MatchOption};
 ghost use Rattle.cmp_ports.specs.Disk.{LeavesOnly};
 ghost use Rattle.cmp_ports.specs.Faults.{Rose};
 ghost use Rattle.deal_model.specs.declared.states.DealState.TheVariants.{Held};
@@ -70,13 +70,15 @@ impl<D: Disk> Desk<D> {
         ensures fault { result ≡ Ordered.DiskFault → Rose (D.faults self.old.disk) (D.faults self.new.disk) }
         ensures later { D.faults self.old.disk ≤ D.faults self.new.disk }
         ensures loan { D.loan self.new.disk ≡ D.loan self.old.disk }
+        ensures mark { MatchOption self.new.mark (result ≢ Ordered.DiskFault) (λ m. (result ≡ Ordered.DiskFault) × (m.before.value ≡ self.old.disk) × (m.after.value ≡ self.new.disk)) }
     {
+        self.mark = None;
         let changes = self.changes();
         let time = event_time(changes, now);
         let Some(change) = held_change(changes, order, time) else {
             return Ordered::NotHeld;
         };
-        let added = self.add(change);
+        let added = self.add_marked(change);
         order_end(added, self.length())
     }
 }

@@ -18,8 +18,8 @@ returns-in_default-clause-moments g c =
     let Own = DoubtOr s.doubt (IsLapse h (event_time h c.args.now)) in
     started g.D.Disk.moment g.D.Disk.left_since s.disk (RecoversWith h Own) (λ image left. with_less h (IsDoubt s.doubt) Own image (λ x e. inl e) (images image (g.met.D.Disk.only_now s.disk image left)))
 
-pub add-added-requires : goal.add-added-requires
-add-added-requires g c =
+pub add_marked-added-requires : goal.add_marked-added-requires
+add_marked-added-requires g c =
     let s = c.args.self.now in
     let h = s.history.items in
     let seen : c.changes-changes.result.now ≡ h = c.changes-changes.ensures.value in
@@ -36,7 +36,7 @@ returns-clause-moments g c =
     let time : c.event_time-time.result ≡ event_time h c.args.now = c.event_time-time.ensures ∙ ap (λ (l : History). event_time l c.args.now) seen in
     let due = subst (λ (l : History). IsDue l c.event_time-time.result c.in-Some.due.tid) seen c.in-Some.ensures in
     let Own = DoubtOr s.doubt (IsLapse h (event_time h c.args.now)) in
-    weaker g.D.Disk.moment g.D.Disk.left_since _ _ _ (RecoversWith h Own) c.add-added.ensures.moments
+    weaker g.D.Disk.moment g.D.Disk.left_since _ _ _ (RecoversWith h Own) c.add_marked-added.ensures.moments
     (λ image left. with_less h (DoubtOr s.doubt (λ x. x ≡ Lapse c.event_time-time.result c.in-Some.due.tid)) Own image (λ x is. ⊎_elim (λ e. inl e) (λ e. inr (c.in-Some.due.tid, subst (λ (t : ℕ). IsDue h t c.in-Some.due.tid) time due, e ∙ ap (λ (t : ℕ). Lapse t c.in-Some.due.tid) time)) is) left)
 
 pub returns-clause-ends : goal.returns-clause-ends
@@ -46,7 +46,7 @@ returns-clause-ends g c =
     let seen : c.changes-changes.result.now ≡ h = c.changes-changes.ensures.value in
     let time : c.event_time-time.result ≡ event_time h c.args.now = c.event_time-time.ensures ∙ ap (λ (l : History). event_time l c.args.now) seen in
     let due = subst (λ (l : History). IsDue l c.event_time-time.result c.in-Some.due.tid) seen c.in-Some.ensures in
-    let g' = c.add-added.new.self.history.items in
-    let ends = lapsed_ends h s.doubt c.in-Some.due.tid c.event_time-time.result c.add-added.result g' c.add-added.new.self.doubt due c.add-added.ensures.ends in
-    let end : c.lapse_end.result ≡ lapse_end c.add-added.result (length g') c.in-Some.due.tid = c.lapse_end.ensures ∙ ap (λ (n : ℕ). lapse_end c.add-added.result n c.in-Some.due.tid) c.length.ensures in
-    subst (λ r. IsLapsed h s.doubt (event_time h c.args.now) r g' c.add-added.new.self.doubt) (sym end) (subst (λ (t : ℕ). IsLapsed h s.doubt t (lapse_end c.add-added.result (length g') c.in-Some.due.tid) g' c.add-added.new.self.doubt) time ends)
+    let g' = c.add_marked-added.new.self.history.items in
+    let ends = lapsed_ends h s.doubt c.in-Some.due.tid c.event_time-time.result c.add_marked-added.result g' c.add_marked-added.new.self.doubt due c.add_marked-added.ensures.ends in
+    let end : c.lapse_end.result ≡ lapse_end c.add_marked-added.result (length g') c.in-Some.due.tid = c.lapse_end.ensures ∙ ap (λ (n : ℕ). lapse_end c.add_marked-added.result n c.in-Some.due.tid) c.length.ensures in
+    subst (λ r. IsLapsed h s.doubt (event_time h c.args.now) r g' c.add_marked-added.new.self.doubt) (sym end) (subst (λ (t : ℕ). IsLapsed h s.doubt t (lapse_end c.add_marked-added.result (length g') c.in-Some.due.tid) g' c.add_marked-added.new.self.doubt) time ends)

@@ -17,8 +17,8 @@ returns-in_default-clause-moments g c =
     let Own = DoubtOr s.doubt (IsOrder c.args.order.now (event_time h c.args.now)) in
     started g.D.Disk.moment g.D.Disk.left_since s.disk (RecoversWith h Own) (λ image left. with_less h (IsDoubt s.doubt) Own image (λ x e. inl e) (images image (g.met.D.Disk.only_now s.disk image left)))
 
-pub add-added-requires : goal.add-added-requires
-add-added-requires g c =
+pub add_marked-added-requires : goal.add_marked-added-requires
+add_marked-added-requires g c =
     let s = c.args.self.now in
     let h = s.history.items in
     let seen : c.changes-changes.result.now ≡ h = c.changes-changes.ensures.value in
@@ -34,7 +34,7 @@ returns-clause-moments g c =
     let time : c.event_time-time.result ≡ event_time h c.args.now = c.event_time-time.ensures ∙ ap (λ (l : History). event_time l c.args.now) seen in
     let is = subst (λ (t : ℕ). IsOrder c.args.order.now t c.in-Some.change) time c.in-Some.ensures.1 in
     let Own = DoubtOr s.doubt (IsOrder c.args.order.now (event_time h c.args.now)) in
-    weaker g.D.Disk.moment g.D.Disk.left_since _ _ _ (RecoversWith h Own) c.add-added.ensures.moments
+    weaker g.D.Disk.moment g.D.Disk.left_since _ _ _ (RecoversWith h Own) c.add_marked-added.ensures.moments
     (λ image left. with_less h (DoubtOr s.doubt (λ x. x ≡ c.in-Some.change)) Own image (λ x either. ⊎_elim (λ e. inl e) (λ e. inr (subst (IsOrder c.args.order.now (event_time h c.args.now)) (sym e) is)) either) left)
 
 pub returns-clause-ends : goal.returns-clause-ends
@@ -45,7 +45,7 @@ returns-clause-ends g c =
     let time : c.event_time-time.result ≡ event_time h c.args.now = c.event_time-time.ensures ∙ ap (λ (l : History). event_time l c.args.now) seen in
     let awaits = subst (λ (l : History). Awaits l c.args.order.now) seen c.in-Some.ensures.0 in
     let is = subst (λ (t : ℕ). IsOrder c.args.order.now t c.in-Some.change) time c.in-Some.ensures.1 in
-    let g' = c.add-added.new.self.history.items in
-    let ends = ordered_ends h s.doubt c.args.order.now (event_time h c.args.now) c.in-Some.change c.add-added.result g' c.add-added.new.self.doubt awaits is c.add-added.ensures.ends in
-    let end : c.order_end.result ≡ order_end c.add-added.result (length g') = c.order_end.ensures ∙ ap (λ (n : ℕ). order_end c.add-added.result n) c.length.ensures in
-    subst (λ r. IsOrdered h s.doubt c.args.order.now (event_time h c.args.now) r g' c.add-added.new.self.doubt) (sym end) ends
+    let g' = c.add_marked-added.new.self.history.items in
+    let ends = ordered_ends h s.doubt c.args.order.now (event_time h c.args.now) c.in-Some.change c.add_marked-added.result g' c.add_marked-added.new.self.doubt awaits is c.add_marked-added.ensures.ends in
+    let end : c.order_end.result ≡ order_end c.add_marked-added.result (length g') = c.order_end.ensures ∙ ap (λ (n : ℕ). order_end c.add_marked-added.result n) c.length.ensures in
+    subst (λ r. IsOrdered h s.doubt c.args.order.now (event_time h c.args.now) r g' c.add_marked-added.new.self.doubt) (sym end) ends

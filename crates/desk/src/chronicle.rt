@@ -1,0 +1,17 @@
+//! A desk is known by its history.
+ghost use Rattle.std.specs.Prelude.{◌≡◌, length};
+
+use crate::desk::Desk;
+use cmp_ports::Disk;
+use deal_model::Change;
+use turnstile::Chronicle;
+
+impl<D: Disk + Drop> Chronicle for Desk<D> {
+    type Entry = Change;
+
+    ghost history = { λ d. d.history.items };
+
+    fn length(&self) -> u64 {
+        self.history.len() as u64
+    }
+}
