@@ -2,8 +2,15 @@
 #![tactic(auto)]
 
 mod deciding;
+mod making;
+mod moment;
 mod places;
+mod requests;
+mod rows;
 mod ruling;
+mod senders;
+#[cfg(test)]
+mod tests;
 
 pub use deciding::ruling_on;
 pub use places::{event_time, is_full, place_of_digest, place_of_grant};

@@ -1,5 +1,5 @@
 //! What may come of what is left of a message.
-ghost use Rattle.std.specs.Prelude.{◌≡◌, Option, is_some};
+ghost use Rattle.std.specs.Prelude.{◌≡◌, ℕ, List, true, Some, is_some};
 ghost use Rattle.deal_model.specs.declared.states.Owner.{Owner};
 ghost use Rattle.deal_table.specs.Table.{Refuses, bare, guard_by};
 ghost use Rattle.deal_rulings.specs.Rulings.{ruling_of, sent_by};
@@ -60,5 +60,16 @@ pub(crate) fn refused(c: &Checked<'_>, fail: FailInfo) -> Ruling
         fail,
         is_guarded: is_guarded(c.ask.kind),
         to_outer: false,
+    }
+}
+
+/// A refusal of the nested message whose sender is known.
+pub(crate) fn refused_outer(kind: Kind, fail: FailInfo) -> Ruling
+    ensures { (kid : List ℕ) (o : Owner) → result ≡ ruling_of (Refuses fail (record { outer = true; guard = guard_by (Some kind) kid o })) }
+{
+    Ruling::Refuses {
+        fail,
+        is_guarded: is_guarded(Some(kind)),
+        to_outer: true,
     }
 }
