@@ -22,6 +22,7 @@ pub use answers::{FoundFault, Lapsed, Listing, Ordered};
 pub use clerk::Clerk;
 pub use desk::Desk;
 pub use journal_core::MountFault;
+pub use looking::brief_of;
 pub use mark::{FaultMark, FaultMarks};
 pub use mounting::history_on;
 pub use receipt::Receipt;

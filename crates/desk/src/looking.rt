@@ -50,7 +50,8 @@ fn name_text(name: &[u8]) -> Short
     }
 }
 
-fn brief_of(s: &Settings) -> Brief
+/// What replies and certificates need of the settings.
+pub fn brief_of(s: &Settings) -> Brief
     ensures { result ≡ brief_of s.now }
 {
     Brief {

@@ -1,4 +1,3 @@
 pub mod AlgorithmLemmas
 pub mod BackLemmas
 pub mod CheckLemmas
-pub mod SizeLemmas

@@ -1,5 +1,5 @@
 -- A key file and its parts.
-use Rattle.std.specs.Prelude.{ℕ, ◌≡◌, ◌+◌, ◌≤◌, List, ◌++◌, length, take, drop, Option, None, Some, IfSome, Result, Ok, Err, refl}
+use Rattle.std.specs.Prelude.{ℕ, ◌≡◌, ◌+◌, ◌≤◌, List, [], ◌++◌, length, take, drop, Option, None, Some, IfSome, Result, Ok, Err, refl}
 use Rattle.std.proofs.Common.{sym, ◌∙◌, ap, subst, arith, length-drop, length-take-le, inl, inr}
 use Rattle.std.proofs.lemmas.List.{take-append-drop, drop-drop, take_all}
 use Rattle.std.proofs.lemmas.Bool.{cases_lt}
@@ -10,14 +10,14 @@ use Rattle.reply_maker.specs.declared.key_file.KeyFault.TheVariants.{ReadFault, 
 use Rattle.reply_maker.specs.Parts.{HasParts, joined, GivesParts, IsRead}
 
 -- the parts of 96 octets are the octets
-joined_parts : (o : List ℕ) → length o ≡ 96 → key_file (issue_seed o) (issue_id o) (reply_seed o) (reply_id o) ≡ o
+pub joined_parts : (o : List ℕ) → length o ≡ 96 → key_file (issue_seed o) (issue_id o) (reply_seed o) (reply_id o) ≡ o
 joined_parts o size =
     let last : length (drop 80 o) ≤ 16 = omega (arith, length-drop 80 o) in
     let d : take 16 (drop 80 o) ≡ drop 80 o = take_all 16 (drop 80 o) last in
     let c : take 32 (drop 48 o) ++ drop 80 o ≡ drop 48 o =
-        ap (λ (l : List ℕ). take 32 (drop 48 o) ++ l) (sym (drop-drop 32 48 o)) ∙ take-append-drop 32 (drop 48 o) in
+    ap (λ (l : List ℕ). take 32 (drop 48 o) ++ l) (sym (drop-drop 32 48 o)) ∙ take-append-drop 32 (drop 48 o) in
     let b : take 16 (drop 32 o) ++ drop 48 o ≡ drop 32 o =
-        ap (λ (l : List ℕ). take 16 (drop 32 o) ++ l) (sym (drop-drop 16 32 o)) ∙ take-append-drop 16 (drop 32 o) in
+    ap (λ (l : List ℕ). take 16 (drop 32 o) ++ l) (sym (drop-drop 16 32 o)) ∙ take-append-drop 16 (drop 32 o) in
     ap (λ (l : List ℕ). take 32 o ++ (take 16 (drop 32 o) ++ (take 32 (drop 48 o) ++ l))) d
     ∙ ap (λ (l : List ℕ). take 32 o ++ (take 16 (drop 32 o) ++ l)) c
     ∙ ap (λ (l : List ℕ). take 32 o ++ l) b
@@ -54,3 +54,15 @@ front_parts all octets r read h = elim (cases_lt 96 (length all)) [
 pub is_read : (left : Option (List ℕ)) (octets : List ℕ) (r : Result KeyFile KeyFault) → IfSome left (λ all. octets ≡ take 97 all) → GivesParts octets r → IsRead left r
 is_read None octets r read h = record { file = octets; read = tt; gives = h }
 is_read (Some all) octets r read h = record { file = all; read = refl; gives = front_parts all octets r read h }
+
+-- .. where the source was not read
+some_file : (left : Option (List ℕ)) → (file : List ℕ) × IfSome left (λ all. all ≡ file)
+some_file None = ([], tt)
+some_file (Some all) = (all, refl)
+
+pub unread : (left : Option (List ℕ)) (r : Result KeyFile KeyFault) → ((file : List ℕ) → GivesParts file r) → IsRead left r
+unread left r gives = let f = some_file left in record { file = f.0; read = f.1; gives = gives f.0 }
+
+-- what is read has the parts of its own file
+pub has_joined : (file : List ℕ) (k : KeyFile) → HasParts file k → HasParts (joined k) k
+has_joined file k h = subst (λ (l : List ℕ). HasParts l k) (sym (joined_is file k h)) h

@@ -1,5 +1,5 @@
 -- The keys of an authority, as its key file and its settings have them.
-use Rattle.std.specs.Prelude.{ℕ, ◌≡◌, ◌≢◌, ◌≤◌, ◌==◌, Bool, false, List, ◌++◌, length, drop, Option, Some, Result, Ok, Err, IfSome, IsTrue}
+use Rattle.std.specs.Prelude.{ℕ, ◌≡◌, ◌≢◌, ◌≤◌, ◌==◌, Bool, false, List, ◌++◌, length, drop, Option, Some, None, if◌then◌else◌, Result, Ok, Err, IfSome, IsTrue}
 use Rattle.std.specs.List.{list_all}
 use Rattle.lms_tree.specs.Keys.{Secret}
 use Rattle.hss_sig.specs.OneLevel.{hss_key}
@@ -7,6 +7,8 @@ use Rattle.deal_changes.specs.declared.change.Settings.{Settings}
 use Rattle.deal_changes.specs.Spki.{is_ca_name}
 use Rattle.deal_model.specs.Keys.{levels_of, tree_of, ots_of}
 use Rattle.reply_maker.specs.KeyFile.{IsKeyFile, key_file, issue_seed, issue_id, reply_seed, reply_id}
+use Rattle.reply_maker.specs.Certificates.{root_of, reply_of}
+use Rattle.reply_maker.specs.declared.certificates.OwnCertificates.{OwnCertificates}
 use Rattle.reply_maker.specs.declared.key_file.KeyFault.{KeyFault}
 use Rattle.reply_maker.specs.declared.key_file.KeyFault.TheVariants.{ReadFault, BadKeyFile, KeyMismatch, NoMemory}
 
@@ -71,13 +73,18 @@ Agrees file s = are_blank s ≡ false → identity_of file s ≡ known_identity 
 abbrev pub file_of : Secret → Secret → List ℕ
 file_of issue reply = key_file issue.seed issue.id reply.seed reply.id
 
+-- the certificates that the issuing key makes: none where the keys of the settings aren't made yet
+abbrev pub certificates_of : Secret → Settings → Option OwnCertificates
+certificates_of issue s = if are_blank s then None else Some (record { root = root_of issue s; reply = reply_of issue s })
+
 -- The keys are those of their key file, under the settings that they are kept with, and the file is the settings' own.
-pub record AreKept (issue reply : Secret) (s : Settings) : Type 0 where
+pub record AreKept (issue reply : Secret) (certificates : Option OwnCertificates) (s : Settings) : Type 0 where
   pub file : IsKeyFile (file_of issue reply)
   pub usable : AreUsable s
   pub issue_is : issue ≡ issue_secret (file_of issue reply) s
   pub reply_is : reply ≡ reply_secret (file_of issue reply) s
   pub agrees : Agrees (file_of issue reply) s
+  pub own : certificates ≡ certificates_of issue s
 
 -- what keys were loaded from
 pub record Loaded : Type 0 where

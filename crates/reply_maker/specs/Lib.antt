@@ -1,3 +1,4 @@
 pub mod KeyFile
+pub mod Certificates
 pub mod Keys
 pub mod Parts

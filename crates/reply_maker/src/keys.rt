@@ -1,51 +1,19 @@
 //! The keys of an authority.
-ghost use Rattle.std.specs.Prelude.{◌≡◌, ◌≢◌, ◌≤◌, ◌++◌, ◌==◌, length, drop, IfOk, IsErrOf, IfErr, OnOk};
-ghost use Rattle.std.specs.List.{list_all};
+ghost use Rattle.std.specs.Prelude.{◌≡◌, ◌≢◌, ◌<◌, ◌≤◌, IfOk, IfErr, IsErrOf, OnOk, MatchOption, true, false};
 ghost use Rattle.cmp_ports.specs.Faults.{Rose};
-ghost use Rattle.hss_sig.specs.OneLevel.{hss_key};
+ghost use Rattle.hss_sig.specs.OneLevel.{hss_key, leaf_count};
+ghost use Rattle.reply_maker.specs.Certificates.{root_of, reply_of};
 ghost use Rattle.reply_maker.specs.Parts.{HasParts, joined};
-ghost use Rattle.reply_maker.specs.Keys.{AreUsable, HasOwnSets, secret_of, issue_secret, reply_secret, identity_in, identity_of, known_identity, are_blank, Gives, IsLoad};
+ghost use Rattle.reply_maker.specs.Keys.{AreUsable, certificates_of, issue_secret, reply_secret, identity_of, are_blank, Gives, IsLoad};
 
-use crate::key_file::{KeyFault, KeyFile, Part, read_key_file};
+use crate::certificates::{OwnCertificates, certificates};
+use crate::key_file::{KeyFault, KeyFile, read_key_file};
+use crate::trees::{Trees, compare, grow_both, identity_in, known_identity};
 use cmp_ports::{Octets, Source};
-use deal_answers::{ots_of, tree_of};
 use deal_model::Settings;
 use hss_sig::{LeafSigner, OneLevel};
-use lms_tree::{GrowFault, Set};
 use std::alloc::{AllocError, Global};
 use std::marker::Model;
-
-/// Grows the tree of a part of a key file, with the sets of a public key.
-fn grow(alloc: Global, part: &Part, key: &[u8; 60]) -> Result<OneLevel, AllocError>
-    requires { HasOwnSets key.now }
-    ensures { IfOk result (λ k. k ≡ secret_of part.now.seed part.now.id key.now) }
-{
-    let set = Set {
-        tree: tree_of(key),
-        ots: ots_of(key),
-    };
-    match OneLevel::grow(alloc, &part.seed, &part.id, set) {
-        Ok(key) => Ok(key),
-        Err(GrowFault::NoMemory) => Err(AllocError),
-        Err(GrowFault::BadSet) => unreachable!(),
-    }
-}
-
-/// The identifiers and the roots of two public keys.
-fn identity_in(issue: &[u8; 60], reply: &[u8; 60]) -> [u8; 96]
-    ensures { result ≡ identity_in issue.now reply.now }
-{
-    let mut identity = [0u8; 96];
-    identity[..48].copy_from_slice(&issue[12..]);
-    identity[48..].copy_from_slice(&reply[12..]);
-    identity
-}
-
-fn are_zeros(octets: &[u8]) -> bool
-    ensures { result ≡ list_all (λ n. n == 0) octets.now }
-{
-    octets.iter().all(|n| *n == 0)
-}
 
 /// A copy of settings. `AllocError` where memory runs out.
 fn copy_of(alloc: Global, settings: &Settings) -> Result<Settings, AllocError>
@@ -64,12 +32,31 @@ fn copy_of(alloc: Global, settings: &Settings) -> Result<Settings, AllocError>
     })
 }
 
+/// The certificates of the keys that the settings know; none where their keys aren't made yet.
+fn certificates_of(
+    alloc: Global,
+    issue: &OneLevel,
+    settings: &Settings,
+) -> Result<Option<OwnCertificates>, AllocError>
+    requires leaves { 1 < leaf_count issue.now.tree }
+    requires time { settings.now.time ≤ 250_000_000_000 }
+    ensures { IfOk result (λ c. c ≡ certificates_of issue.now settings.now) }
+{
+    match known_identity(settings) {
+        None => Ok(None),
+        Some(_) => match certificates(alloc, issue, settings) {
+            Ok(own) => Ok(Some(own)),
+            Err(fault) => Err(fault),
+        },
+    }
+}
+
 /// The two private keys of an authority, grown from its key file, with the settings that it has. Contracts see the octets of
 /// the file and the settings.
 #[derive(Drop)]
 pub struct Keys {
-    issue: OneLevel,
-    reply: OneLevel,
+    trees: Trees,
+    certificates: Option<OwnCertificates>,
     settings: Settings,
 }
 
@@ -79,9 +66,9 @@ impl Model for Keys {
 
     ghost Value = { Loaded };
 
-    ghost view = { λ k. record { file = file_of k.issue k.reply; settings = k.settings } };
+    ghost view = { λ k. record { file = file_of k.trees.issue k.trees.reply; settings = k.settings } };
 
-    ghost invariant = { λ k. AreKept k.issue k.reply k.settings };
+    ghost invariant = { λ k. AreKept k.trees.issue k.trees.reply k.certificates k.settings };
 }
 
 impl Keys {
@@ -116,20 +103,23 @@ impl Keys {
         ensures gives { Gives (joined file.now) settings.now result }
         ensures grown { IfErr result (λ f. (f ≢ KeyFault.ReadFault) × (f ≢ KeyFault.BadKeyFile)) }
     {
-        let issue = grow(alloc, &file.issue, &settings.issue_key)?;
-        let reply = grow(alloc, &file.reply, &settings.reply_key)?;
-        let told = identity_in(&issue.public(), &reply.public());
-        let known = identity_in(&settings.issue_key, &settings.reply_key);
-        if !are_zeros(&known) && told != known {
-            return Err(KeyFault::KeyMismatch {
-                file: told,
-                journal: known,
-            });
+        let Ok(trees) = grow_both(alloc, file, settings) else {
+            return Err(KeyFault::NoMemory);
+        };
+        match compare(&trees, settings) {
+            Ok(()) => {}
+            Err(fault) => return Err(fault),
         }
+        let Ok(certificates) = certificates_of(alloc, &trees.issue, settings) else {
+            return Err(KeyFault::NoMemory);
+        };
+        let Ok(settings) = copy_of(alloc, settings) else {
+            return Err(KeyFault::NoMemory);
+        };
         Ok(Keys {
-            issue,
-            reply,
-            settings: copy_of(alloc, settings)?,
+            trees,
+            certificates,
+            settings,
         })
     }
 
@@ -137,14 +127,14 @@ impl Keys {
     pub(crate) fn issue(&self) -> &OneLevel
         ensures { result.now ≡ issue_secret self.now.file self.now.settings }
     {
-        &self.issue
+        &self.trees.issue
     }
 
     /// The key that signs replies.
     pub(crate) fn reply(&self) -> &OneLevel
         ensures { result.now ≡ reply_secret self.now.file self.now.settings }
     {
-        &self.reply
+        &self.trees.reply
     }
 
     /// The settings that the keys were loaded with.
@@ -159,20 +149,30 @@ impl Keys {
     pub fn issue_key(&self) -> [u8; 60]
         ensures { result ≡ hss_key (issue_secret self.now.file self.now.settings) }
     {
-        self.issue.public()
+        self.trees.issue.public()
     }
 
     /// The public key that replies are verified with, 60 octets (RFC 8554, 6.1). Takes no memory.
     pub fn reply_key(&self) -> [u8; 60]
         ensures { result ≡ hss_key (reply_secret self.now.file self.now.settings) }
     {
-        self.reply.public()
+        self.trees.reply.public()
+    }
+
+    /// The authority's own certificate and that of its reply key; none where the settings' keys aren't made yet.
+    pub(crate) fn certificates(&self) -> Option<&OwnCertificates>
+        ensures { MatchOption result (are_blank self.now.settings ≡ true) (λ c. (are_blank self.now.settings ≡ false)
+            × (c.now.root ≡ root_of (issue_secret self.now.file self.now.settings) self.now.settings)
+            × (c.now.reply ≡ reply_of (issue_secret self.now.file self.now.settings) self.now.settings)) }
+    {
+        self.certificates.as_ref()
     }
 
     /// By what the authority is known: the identifier and the root of each key. Takes no memory.
+    #[tactic(auto, unfolding(crate::specs::Keys::identity_of))]
     pub fn identity(&self) -> [u8; 96]
         ensures { result ≡ identity_of self.now.file self.now.settings }
     {
-        identity_in(&self.issue.public(), &self.reply.public())
+        identity_in(&self.issue_key(), &self.reply_key())
     }
 }

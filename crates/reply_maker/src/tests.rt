@@ -11,6 +11,7 @@ use deal_model::{Settings, is_ca_name};
 use std::alloc::Global;
 use std::process::Abort;
 use std::test::Fail;
+use x509_cert::read_cert;
 
 /// The seeds 00 to 1f and ff to e0, each with its identifier behind it, 80 to 8f and 7f to 70.
 const FILE: &str =
@@ -29,19 +30,14 @@ const BLANK_KEY: &str =
 const NAME: [u8; 21] = *b"\x30\x13\x31\x11\x30\x0f\x06\x03\x55\x04\x03\x0c\x08Fleet CA";
 
 /// A key in hex, of one level and of the smallest sets.
-fn key_of(rt: &impl Abort, digits: &str) -> Result<[u8; 60], Fail> {
+fn key_of(digits: &str) -> Result<[u8; 60], Fail> {
     let mut key = [0u8; 60];
     hex::decode_to_slice(digits, &mut key)?;
     Ok(key)
 }
 
 /// Settings with these keys.
-fn settings_with(
-    rt: &impl Abort,
-    alloc: Global,
-    issue: &str,
-    reply: &str,
-) -> Result<Settings, Fail>
+fn settings_with(rt: &impl Abort, alloc: Global, issue: &str, reply: &str) -> Result<Settings, Fail>
     ensures { IfOk result AreUsable }
 {
     let issue_key = key_of(issue)?;
@@ -67,7 +63,11 @@ fn check_bad(rt: &impl Abort, alloc: Global, file: &[u8]) -> Result<(), Fail> {
     let settings = settings_with(rt, alloc, BLANK_KEY, BLANK_KEY)?;
     let mut source = MemSource::new(Vec::from_slice(alloc, file)?);
     let loaded = Keys::load(alloc, &mut source, &settings);
-    assert!(rt; loaded.err() == Some(KeyFault::BadKeyFile), "{}", file.len());
+    assert!(rt;
+        loaded.err() == Some(KeyFault::BadKeyFile),
+        "{}",
+        file.len()
+    );
     Ok(())
 }
 
@@ -75,9 +75,46 @@ fn check_bad(rt: &impl Abort, alloc: Global, file: &[u8]) -> Result<(), Fail> {
 fn files_of_another_form_are_refused(rt: HostRuntime) -> Result<(), Fail> {
     let alloc = rt.alloc();
     let file: Vec<u8> = hex::decode(alloc, FILE)?;
-    check_bad(&rt, alloc, &file[..file.len().min(95)])?;
+    assert!(rt; file.len() == 96);
+
+    // 95 octets, and 97.
+    check_bad(&rt, alloc, &file[..95])?;
     let mut long = Vec::from_slice(alloc, &file)?;
     long.push(0)?;
     check_bad(&rt, alloc, &long)?;
+
+    // The same identifier twice, and one of zeros.
+    let mut same = Vec::from_slice(alloc, &file[..80])?;
+    same.extend_from_slice(&file[32..48])?;
+    check_bad(&rt, alloc, &same)?;
+    let mut zeros = Vec::from_slice(alloc, &file[..80])?;
+    zeros.extend_from_slice(&[0; 16])?;
+    check_bad(&rt, alloc, &zeros)?;
     Ok(())
+}
+
+/// Whether a certificate has this serial number and is of the authority.
+fn check_certificate(rt: &impl Abort, octets: &[u8], serial: u8) -> Result<(), Fail> {
+    let cert = read_cert(octets)?;
+    assert_eq!(rt; cert.serial, [serial].as_slice());
+    assert_eq!(rt; cert.issuer.whole, NAME.as_slice());
+    Ok(())
+}
+
+#[test]
+fn keys_that_others_grew_are_known(rt: HostRuntime) -> Result<(), Fail> {
+    let alloc = rt.alloc();
+    let settings = settings_with(&rt, alloc, ISSUE_KEY, REPLY_KEY)?;
+    let mut source = MemSource::new(hex::decode(alloc, FILE)?);
+    let keys = Keys::load(alloc, &mut source, &settings)?;
+    assert!(rt; keys.issue_key() == settings.issue_key);
+    assert!(rt; keys.reply_key() == settings.reply_key);
+    assert!(rt; keys.identity()[..48] == settings.issue_key[12..]);
+
+    // The authority's own certificate has the number 1, and that of its replies 2.
+    let Some(certificates) = keys.certificates() else {
+        return Err(Fail::new("no certificates"));
+    };
+    check_certificate(&rt, certificates.root.as_slice(), 1)?;
+    check_certificate(&rt, certificates.reply.as_slice(), 2)
 }

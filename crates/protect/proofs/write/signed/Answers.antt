@@ -1,4 +1,4 @@
-use Rattle.protect.proofs.SizeLemmas.{signed_bound}
+use Rattle.hss_sig.proofs.SizeLemmas.{signed_bound}
 use Rattle.protect.proofs.write.signed.Goals as goal
 
 pub returns-clause-short : goal.returns-clause-short

@@ -2,10 +2,15 @@
 use Rattle.std.proofs.Common.{◌≡◌, ℕ, zero, suc, ◌+◌, ◌*◌, ◌≤◌, Bool, true, false, cond, eqb, List, length, take, drop, Option, Some, None, refl, ap, arith}
 use Rattle.std.specs.Prelude.{MatchOption, option_map, option_and_then, Result, Ok, Err, IfOk}
 use Rattle.std.proofs.lemmas.List.{length-drop}
-use Rattle.asn_fields.proofs.FieldLemmas.{some_same, none_some}
 use Rattle.lms_params.specs.Parameters.{OtsRow, ots_row, tree_height}
 use Rattle.lms_tree.specs.Verifies.{u32_at, LmsOkIn, LmsOk}
 use Rattle.hss_sig.specs.Hss.{signature_size, Leads, LevelsOk, HssOk}
+
+some_same : {X : Type 0} (x y : X) → Some x ≡ Some y → x ≡ y
+some_same x y e = cc
+
+none_some : {X : Type 0} (x : X) → None ≡ Some x → ⊥
+none_some x e = cc
 
 -- a choice between an option that is bounded and others that are
 chosen_bound : {X : Type 0} (f : X → ℕ) (n : ℕ) (b : Bool) (x : X) (rest : Option X) → f x ≤ n → ((y : X) → rest ≡ Some y → f y ≤ n) → (y : X) → cond b (Some x) rest ≡ Some y → f y ≤ n
