@@ -9,8 +9,6 @@ mod requests;
 mod rows;
 mod ruling;
 mod senders;
-#[cfg(test)]
-mod tests;
 
 pub use deciding::ruling_on;
 pub use places::{event_time, is_full, place_of_digest, place_of_grant};
