@@ -1,6 +1,6 @@
 //! Founds a service on an empty disk.
 ghost use Rattle.std.specs.Prelude.{◌≡◌, ◌≢◌, ◌↔◌, ◌≤◌, ℕ, List, [], ◌∷◌, length, Some, None, Err, false, IfOk, IfErr, IsErrOf, MatchResult};
-ghost use Rattle.cmp_ports.specs.Disk.{LeavesOnly};
+ghost use Rattle.cmp_ports.specs.Disk.{Among, LeavesOnly};
 ghost use Rattle.cmp_ports.specs.Faults.{Rose};
 ghost use Rattle.journal_core.specs.Log.{is_founded};
 ghost use Rattle.journal_core.specs.Journal.{IsAtRest};
@@ -72,6 +72,9 @@ fn begin<D: Disk>(alloc: Global, disk: &mut D, first: &[u8]) -> Result<Journal, 
     ensures told { (f : List ℕ) → D.content disk.old ≡ Some f → IsPrepared f result }
     ensures founded { IfOk result (λ j. IsAtRest magic (first.now ∷ []) j (D.images disk.new)) }
     ensures moments { LeavesOnly D.moment D.left_since disk.old disk.new (IsBegun (D.images disk.old) first.now) }
+    ensures same { IsErrOf result FoundFault.Already → D.content disk.new ≡ D.content disk.old }
+    ensures crash { IsErrOf result FoundFault.Already → Among (D.images disk.old) (D.images disk.new) }
+    ensures untouched { IsErrOf result FoundFault.Already → LeavesOnly D.moment D.left_since disk.old disk.new (D.images disk.old) }
     ensures fault { IsErrOf result FoundFault.DiskFault → Rose (D.faults disk.old) (D.faults disk.new) }
     ensures later { D.faults disk.old ≤ D.faults disk.new }
     ensures loan { D.loan disk.new ≡ D.loan disk.old }
@@ -102,6 +105,10 @@ impl<D: Disk> Desk<D> {
         ensures told { (f : List ℕ) → D.content disk ≡ Some f → MatchResult result (λ _. is_founded f ≡ false) (λ r. IsPrepared {T = Unit {0}} f (Err r.1)) }
         // A stop at any moment leaves an image from before the call, a disk that isn't founded, or one with this change.
         ensures moments { MatchResult result (λ d. LeavesOnly D.moment D.left_since disk d.disk (IsBegun (D.images disk) (spelling (founding settings.now now)))) (λ r. LeavesOnly D.moment D.left_since disk r.0 (IsBegun (D.images disk) (spelling (founding settings.now now)))) }
+        // A disk that is founded already stays as it was.
+        ensures same { IfErr result (λ r. r.1 ≡ FoundFault.Already → D.content r.0 ≡ D.content disk) }
+        ensures crash { IfErr result (λ r. r.1 ≡ FoundFault.Already → Among (D.images disk) (D.images r.0)) }
+        ensures untouched { IfErr result (λ r. r.1 ≡ FoundFault.Already → LeavesOnly D.moment D.left_since disk r.0 (D.images disk)) }
         ensures fault { IfErr result (λ r. r.1 ≡ FoundFault.DiskFault → Rose (D.faults disk) (D.faults r.0)) }
         ensures loan { MatchResult result (λ d. D.loan d.disk ≡ D.loan disk) (λ r. D.loan r.0 ≡ D.loan disk) }
     {

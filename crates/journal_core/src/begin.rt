@@ -65,6 +65,7 @@ impl Journal {
         ensures prepared { OnOk result (Every (D.images disk.new) (ClosedAfter [])) }
         ensures already { IsErrOf result PrepareFault.Already → D.content disk.new ≡ D.content disk.old }
         ensures crash { IsErrOf result PrepareFault.Already → Among (D.images disk.old) (D.images disk.new) }
+        ensures untouched { IsErrOf result PrepareFault.Already → LeavesOnly D.moment D.left_since disk.old disk.new (D.images disk.old) }
 
         // A stop at any moment leaves an image from before it, or one that isn't founded.
         ensures moments { LeavesOnly D.moment D.left_since disk.old disk.new (λ c. D.images disk.old c ⊎ (is_founded c ≡ false)) }

@@ -89,6 +89,20 @@ pub record AreWithin (f : Fields) : Type 0 where
   pub check_after : (1 ≤ f.check_after) × (f.check_after ≤ 86400)
   pub days : (1 ≤ f.days) × (f.days ≤ 36500)
 
+-- The key isn't made yet: it is blank, with type codes that the service may have.
+pub record IsBlank (key : List ℕ) : Type 0 where
+  pub tree : ℕ
+  pub ots : ℕ
+  pub tree_in : (5 ≤ tree) × (tree ≤ 7)
+  pub ots_in : (1 ≤ ots) × (ots ≤ 4)
+  pub blank : key ≡ blank_key tree ots
+
+-- the settings have no keys yet
+pub record AreUnmade (s : Settings) : Type 0 where
+  pub time : s.time ≡ 0
+  pub issue_key : IsBlank s.issue_key
+  pub reply_key : IsBlank s.reply_key
+
 -- a key with the level and the type codes of a blank one, which is not blank
 pub record Fills (blank key : List ℕ) : Type 0 where
   pub whole : length key ≡ 60

@@ -4,7 +4,7 @@ ghost use Rattle.std.specs.Str.{is_utf8};
 ghost use Rattle.toml.specs.View.{table_view};
 ghost use Rattle.registry.specs.Forms.{text_in, number_in, has_only};
 ghost use Rattle.registry.specs.Files.{Reads};
-ghost use Rattle.registry.specs.Settings.{setting, setting_keys, blank_key, settings_of, settings_in, settings_with, AreWithin, MayFound};
+ghost use Rattle.registry.specs.Settings.{setting, setting_keys, blank_key, settings_of, settings_in, settings_with, AreWithin, MayFound, AreUnmade};
 
 use crate::fault::{RegFault, SettingKey};
 use crate::file::{has_only, read_table, value_at};
@@ -122,6 +122,7 @@ fn settings_with(alloc: Global, fields: &Fields<'_>) -> Result<Settings, AllocEr
     requires { AreWithin fields.now }
     ensures value { IfOk result (λ s. s ≡ settings_with fields.now) }
     ensures founds { IfOk result MayFound }
+    ensures unmade { IfOk result AreUnmade }
 {
     Ok(Settings {
         time: 0,
@@ -145,6 +146,8 @@ pub fn read_settings(alloc: Global, toml: &[u8]) -> Result<Settings, RegFault>
     ensures refused { IfErr result (λ f. f ≢ RegFault.NoMemory → settings_in toml.now ≡ Err f) }
     // What is read may found a service, once its keys are made.
     ensures founds { IfOk result MayFound }
+    // They aren't made yet.
+    ensures unmade { IfOk result AreUnmade }
 {
     let table = read_table(alloc, toml)?;
     let fields = fields_of(&table)?;
