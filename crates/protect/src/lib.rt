@@ -8,6 +8,8 @@ mod header;
 mod how;
 mod key;
 mod laws;
+#[cfg(test)]
+mod tests;
 mod write;
 
 pub use check::protection_ok;

@@ -13,12 +13,14 @@ import org.bouncycastle.asn1.cmp.CMPCertificate;
 import org.bouncycastle.asn1.cmp.GenMsgContent;
 import org.bouncycastle.asn1.cmp.InfoTypeAndValue;
 import org.bouncycastle.asn1.cmp.PKIBody;
+import org.bouncycastle.asn1.cmp.PKIConfirmContent;
 import org.bouncycastle.asn1.cmp.PKIHeader;
 import org.bouncycastle.asn1.cmp.PKIHeaderBuilder;
 import org.bouncycastle.asn1.cmp.PKIMessage;
 import org.bouncycastle.asn1.cmp.ProtectedPart;
 import org.bouncycastle.asn1.pkcs.PBMAC1Params;
 import org.bouncycastle.asn1.pkcs.PKCSObjectIdentifiers;
+import org.bouncycastle.asn1.x500.RDN;
 import org.bouncycastle.asn1.x500.X500Name;
 import org.bouncycastle.asn1.x509.AlgorithmIdentifier;
 import org.bouncycastle.asn1.x509.Certificate;
@@ -49,10 +51,7 @@ public final class ProtectionVectors {
         System.out.println("# Bouncy Castle " + PKIMessage.class.getPackage().getImplementationVersion());
         show("body", BODY);
         byte[] salt = run(0x50, 16);
-        AlgorithmIdentifier hmac = new AlgorithmIdentifier(PKCSObjectIdentifiers.id_hmacWithSHA256, DERNull.INSTANCE);
-        AlgorithmIdentifier derivation = new AlgorithmIdentifier(PKCSObjectIdentifiers.id_PBKDF2,
-                new DERSequence(new ASN1Encodable[] {new DEROctetString(salt), new ASN1Integer(1000), hmac}));
-        PKIHeader maced = header(new AlgorithmIdentifier(PKCSObjectIdentifiers.id_PBMAC1, new PBMAC1Params(derivation, hmac)));
+        PKIHeader maced = header(pbmac1(salt, 1000));
         show("mac", new PKIMessage(maced, BODY, new DERBitString(mac("secret-1".getBytes(), salt, 1000, part(maced)))));
         HSSKeyPairGenerator generator = new HSSKeyPairGenerator();
         LMSParameters set = new LMSParameters(LMSigParameters.lms_sha256_n32_h5, LMOtsParameters.sha256_n32_w8);
@@ -71,6 +70,29 @@ public final class ProtectionVectors {
         PKIHeader odd = header(new AlgorithmIdentifier(HSS_LMS, DERNull.INSTANCE));
         show("with parameters, its signature cut", new PKIMessage(odd, BODY, new DERBitString(run(0x70, 8))));
         show("plain", new PKIMessage(header(null), BODY));
+        show("its protection left out", new PKIMessage(maced, BODY));
+        for (int octets : new int[] {7, 64, 65}) {
+            show("a salt of " + octets, small(run(0x50, octets), 1));
+        }
+        for (int rounds : new int[] {0, 1, 200_000, 200_001}) {
+            show("rounds " + rounds, small(run(0x50, 8), rounds));
+        }
+    }
+
+    /** A pkiconf between empty names. Where there are no rounds its MAC is that of one. */
+    private static PKIMessage small(byte[] salt, int rounds) throws Exception {
+        PKIBody body = new PKIBody(PKIBody.TYPE_CONFIRM, new PKIConfirmContent());
+        GeneralName nobody = new GeneralName(new X500Name(new RDN[0]));
+        PKIHeader header = new PKIHeaderBuilder(2, nobody, nobody).setProtectionAlg(pbmac1(salt, rounds)).build();
+        byte[] part = new ProtectedPart(header, body).getEncoded("DER");
+        return new PKIMessage(header, body, new DERBitString(mac("secret-1".getBytes(), salt, Math.max(rounds, 1), part)));
+    }
+
+    private static AlgorithmIdentifier pbmac1(byte[] salt, int rounds) {
+        AlgorithmIdentifier hmac = new AlgorithmIdentifier(PKCSObjectIdentifiers.id_hmacWithSHA256, DERNull.INSTANCE);
+        AlgorithmIdentifier derivation = new AlgorithmIdentifier(PKCSObjectIdentifiers.id_PBKDF2,
+                new DERSequence(new ASN1Encodable[] {new DEROctetString(salt), new ASN1Integer(rounds), hmac}));
+        return new AlgorithmIdentifier(PKCSObjectIdentifiers.id_PBMAC1, new PBMAC1Params(derivation, hmac));
     }
 
     private static PKIHeader header(AlgorithmIdentifier algorithm) {
