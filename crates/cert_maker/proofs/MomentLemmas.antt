@@ -1,22 +1,22 @@
 -- The text of a second is the one that the calendar gives it.
-use Rattle.std.proofs.Common.{◌≡◌, ℕ, zero, suc, ◌+◌, ◌*◌, ◌/◌, ◌%◌, ◌<◌, ◌≤◌, ◌++◌, Bool, true, false, cond, IsTrue, List, refl, sym, ap, subst, ◌∙◌, arith, inl, inr, pos}
+use Rattle.std.proofs.Common.{◌≡◌, ℕ, zero, suc, ◌/◌, ◌%◌, ◌<◌, ◌≤◌, ◌++◌, Bool, true, false, cond, List, sym, ap, subst, ◌∙◌, arith, inl, inr, pos}
 use Rattle.std.specs.Prelude.{nat_le}
 use Rattle.std.proofs.lemmas.Bool.{cases_order}
 use Rattle.std.proofs.lemmas.Bool.Decides.{nat_tests}
-use Rattle.jiff_core.specs.Calendar.{IsCivilDate, day_count, days_from_civil}
+use Rattle.jiff_core.specs.Calendar.{IsCivilDate, day_count}
 use Rattle.jiff_core.proofs.SignedLemmas.{signed_arith}
 use Rattle.jiff_core.proofs.CalendarLemmas.{days_from_civil-day_count, day_count-epoch, day_count-lt_year, day_count-lt_month, day_count-day, day_count-day_of_year, days_in_month_bounds}
 use Rattle.der_base.specs.Element.{element}
 use Rattle.der_base.specs.Reading.{part}
 use Rattle.asn_types.specs.Time.{IsTime}
 use Rattle.cmp_time.specs.declared.moment.Moment.{Moment}
-use Rattle.cmp_time.specs.Time.{IsMoment, IsGeneralized, IsUtc, utc_text, generalized_text}
+use Rattle.cmp_time.specs.Time.{IsMoment, IsGeneralized, IsUtc, utc_text}
 use Rattle.cmp_time.proofs.TextLemmas.{year_from}
 use Rattle.x509_cert.specs.Cert.{tbs_octets}
 use Rattle.x509_cert.specs.Plan.{planned, IsPlanned}
 use Rattle.x509_cert.specs.Validity.{IsTimeText, IsValidity, time_tag}
 use Rattle.x509_cert.specs.declared.plan.CertPlan.{CertPlan}
-use Rattle.cert_maker.specs.Moments.{last_where, day_of, has_come, year_of, month_of, date_of, moment_of, generalized_of, time_text, time_octets, validity_octets}
+use Rattle.cert_maker.specs.Moments.{last_where, day_of, has_come, year_of, month_of, date_of, moment_of, generalized_of, time_text, validity_octets}
 use Rattle.cert_maker.specs.Certificates.{plan_octets}
 
 -- what passes, with nothing behind it that does, is the last

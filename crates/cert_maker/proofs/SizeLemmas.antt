@@ -1,5 +1,5 @@
 -- How long the signed part of a plan is.
-use Rattle.std.proofs.Common.{◌≡◌, ℕ, ◌+◌, ◌<◌, ◌≤◌, ◌++◌, List, length, ap, arith}
+use Rattle.std.proofs.Common.{ℕ, ◌+◌, ◌<◌, ◌≤◌, List, length, ap, arith}
 use Rattle.std.proofs.lemmas.List.{length-append}
 use Rattle.der_base.specs.Element.{element}
 use Rattle.asn_types.proofs.LengthLemmas.{length_element_le}

@@ -1,9 +1,11 @@
 -- The octets of the service's certificates. Each is signed by a leaf of the key that issues (RFC 9802, 5): the authority's own by
 -- leaf 0, that of its replies by leaf 1.
-use Rattle.std.specs.Prelude.{◌≡◌, ℕ, ◌≤◌, List, []}
+use Rattle.std.specs.Prelude.{ℕ, ◌^◌, ◌≤◌, List, []}
 use Rattle.deal_changes.specs.declared.change.Change.{Change}
 use Rattle.deal_changes.specs.declared.change.Change.TheVariants.{Grant}
+use Rattle.deal_changes.specs.Times.{time_of_change}
 use Rattle.deal_model.specs.declared.asking.Brief.{Brief}
+use Rattle.deal_model.specs.Rules.{size_of}
 use Rattle.x509_cert.specs.Cert.{tbs_octets}
 use Rattle.x509_cert.specs.Plan.{planned, signed_octets}
 use Rattle.x509_cert.specs.declared.plan.CertPlan.{CertPlan}
@@ -51,3 +53,18 @@ pub record AreFounding (keys : Brief) : Type 0 where
   pub check_high : keys.check_after ≤ 86400
   pub days_low : 1 ≤ keys.days
   pub days_high : keys.days ≤ 36500
+
+-- the change grants a certificate
+abbrev pub IsGrant : Change → Type 0
+IsGrant (Grant s b w serial leaf) = Unit {0}
+IsGrant _ = ⊥
+
+-- As each change of a legal history is: no clock says a later time, and it fits a log.
+pub record IsKept (c : Change) : Type 0 where
+  pub timely : time_of_change c ≤ 250000000000
+  pub sized : size_of c ≤ 2 ^ 30
+
+-- the leaf that signs the certificate of a Grant
+abbrev pub leaf_of : Change → ℕ
+leaf_of (Grant s b w serial leaf) = leaf
+leaf_of _ = 0

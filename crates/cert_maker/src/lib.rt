@@ -2,9 +2,12 @@
 //! that it grants.
 #![tactic(auto)]
 
+mod certificate;
 mod extensions;
+mod granted;
 mod plans;
 mod tbs;
 
+pub use certificate::{cert_of, cert_of_plan, tbs_of};
 pub use plans::{reply_plan, root_plan};
 pub use tbs::tbs_of_plan;
