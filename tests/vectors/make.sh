@@ -22,14 +22,16 @@ python3 "$here/log_vectors.py" >"$out/logs.txt"
 python3 "$here/near_certs.py" >"$out/near_certs.txt"
 python3 "$here/neighbours.py" >"$out/neighbours.txt"
 python3 "$here/ask_vectors.py" >"$out/asks.txt"
+python3 "$here/wish_vectors.py" >"$out/wishes.txt"
 if command -v openssl >/dev/null; then
     "$here/openssl_certs.sh" >"$out/openssl_certs.txt"
     "$here/pkcs10.sh" >"$out/pkcs10.txt"
+    "$here/key_update.sh" >"$out/key_update.txt"
 else
-    echo "skipped: openssl_certs.txt and pkcs10.txt (no openssl)"
+    echo "skipped: openssl_certs.txt, pkcs10.txt and key_update.txt (no openssl)"
 fi
 echo "hmac.txt, frames.txt, frame.der, changes.txt, histories.txt, rules.txt, lines.txt, journals.txt, logs.txt,"
-echo "near_certs.txt, neighbours.txt and asks.txt are made"
+echo "near_certs.txt, neighbours.txt, asks.txt and wishes.txt are made"
 
 jars=${BCJARS:-/usr/share/java}
 path=$jars/bcprov.jar:$jars/bcutil.jar

@@ -1,45 +1,37 @@
 -- What a change keeps of a message fits its places there.
-use Rattle.std.proofs.Common.{◌≡◌, ℕ, ◌+◌, ◌≤◌, ◌<◌, ◌^◌, ◌++◌, Bool, true, false, ◌&&◌, cond, leb, List, [], ◌∷◌, length, Option, Some, None, IfSome, Result, Ok, Err, is_some, refl, sym, ap, subst, ◌∙◌, arith}
-use Rattle.std.proofs.lemmas.List.{length-append}
+use Rattle.std.proofs.Common.{◌≡◌, ℕ, ◌≤◌, ◌<◌, ◌^◌, Bool, true, false, ◌&&◌, leb, List, [], ◌∷◌, length, Option, Some, None, IfSome, Ok, is_some, refl, sym, subst, arith}
 use Rattle.std.proofs.lemmas.Bool.Decides.{nat_tests}
 use Rattle.sha2.proofs.Facts256.{length-sha256}
-use Rattle.der_base.specs.Element.{element, IsElement}
-use Rattle.asn_fields.specs.Rows.{RowForm}
-use Rattle.asn_types.specs.Extension.{ExtensionForm}
-use Rattle.asn_types.specs.Key.{Key}
-use Rattle.req_forms.specs.Pkcs10.{P10Form}
 use Rattle.req_forms.specs.Requests.{ReqForm}
 use Rattle.pki_parts.proofs.ReasonLemmas.{reason_found}
-use Rattle.pki_parts.specs.Reason.{IsReason, GiveReason, reasons_in, reason_in_at, IsReasonOf, AsksReason}
+use Rattle.pki_parts.specs.Reason.{IsReason, GiveReason, reasons_in, reason_in_at, IsReasonOf}
 use Rattle.pki_parts.specs.Revocation.{RevForm}
-use Rattle.pki_header.specs.Header.{HeadForm, head_content}
 use Rattle.pki_message.specs.Body as forms
 use Rattle.pki_message.specs.Body.{BodyForm, IsInside}
-use Rattle.pki_message.specs.Frame.{message_limit}
-use Rattle.pki_message.specs.Message.{MessageForm, IsMessage}
-use Rattle.deal_changes.specs.Spelling.{IsBlob, IsShort, IsTid, IsWish}
+use Rattle.pki_message.specs.Message.{MessageForm}
+use Rattle.deal_changes.specs.Spelling.{IsShort, IsWish}
 use Rattle.deal_changes.specs.declared.change.Body4.{Body4}
 use Rattle.deal_table.specs.History.{Receipted}
-use Rattle.deal_table.specs.Message.{Body, Enrols, FitsBody, FitsMessage, Facts, Letter, Header}
+use Rattle.deal_table.specs.Message.{FitsBody, Facts}
 use Rattle.intake.proofs.Limits.{crmf_within, p10_within, body_within, head_within}
 use Rattle.intake.proofs.Wished.{wish_fits}
-use Rattle.intake.specs.Bodies.{crmf_enrolment, p10_enrolment, reason_of, withdrawal_of, body_facts}
-use Rattle.intake.specs.Headers.{header_of, asks_implicit}
+use Rattle.intake.specs.Bodies.{crmf_enrolment, reason_of, withdrawal_of, body_facts}
+use Rattle.intake.specs.Headers.{asks_implicit}
 use Rattle.intake.specs.Laws.{NamesKey, FitsKeyed, LettersFit}
-use Rattle.intake.specs.Letter.{IsReading, Checks, facts_of, inside_of, IsLetter}
+use Rattle.intake.specs.Letter.{IsReading, Checks, facts_of, inside_of}
 use Rattle.intake.specs.Told.{IsLimited, AreLimited}
 use Rattle.intake.specs.Values.{sized}
 
+within_parts : (a n b : ℕ) → leb a n && leb n b ≡ true → (a ≤ n) × (n ≤ b)
+within_parts a n b e = grind (arith, nat_tests)
+
+sized_by : (least most : ℕ) (octets : List ℕ) (b : Bool) → leb least (length octets) && leb (length octets) most ≡ b → IfSome (sized least most (Some octets)) (λ octets. (least ≤ length octets) × (length octets ≤ most))
+sized_by least most octets true e = rw e (within_parts least (length octets) most e)
+sized_by least most octets false e = rw e tt
+
 sized_within : (least most : ℕ) (o : Option (List ℕ)) → IfSome (sized least most o) (λ octets. (least ≤ length octets) × (length octets ≤ most))
 sized_within least most None = tt
-sized_within least most (Some octets) = by_test (leb least (length octets) && leb (length octets) most) refl
-  where
-    by_test : (b : Bool) → leb least (length octets) && leb (length octets) most ≡ b → IfSome (sized least most (Some octets)) (λ octets. (least ≤ length octets) × (length octets ≤ most))
-    by_test true e = rw e (parts least (length octets) most e)
-    by_test false e = rw e tt
-
-    parts : (a n b : ℕ) → leb a n && leb n b ≡ true → (a ≤ n) × (n ≤ b)
-    parts a n b e = grind (arith, nat_tests)
+sized_within least most (Some octets) = sized_by least most octets (leb least (length octets) && leb (length octets) most) refl
 
 short_of : (o : Option (List ℕ)) → IfSome o (λ octets. (16 ≤ length octets) × (length octets ≤ 64)) → IfSome o IsShort
 short_of None h = tt

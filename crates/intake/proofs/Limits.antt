@@ -1,22 +1,22 @@
 -- What a message asks for is no longer than the message.
-use Rattle.std.proofs.Common.{◌≡◌, ℕ, ◌+◌, ◌≤◌, ◌^◌, ◌<◌, ◌++◌, List, [], ◌∷◌, length, map, Option, Some, None, IfSome, refl, sym, ap, subst, ◌∙◌, arith}
+use Rattle.std.proofs.Common.{◌≡◌, ℕ, ◌+◌, ◌++◌, List, [], ◌∷◌, map, Option, Some, None, IfSome, sym, ap, subst, arith}
 use Rattle.std.proofs.lemmas.List.{length-append}
 use Rattle.der_base.specs.Element.{element, IsElement}
 use Rattle.asn_fields.proofs.FieldLemmas.{some_same}
 use Rattle.asn_fields.specs.Forms.{optional_spelling, FitsOptional}
-use Rattle.asn_fields.specs.Rows.{RowForm, first_of, row_of, entries_spelling, FitsEntries}
+use Rattle.asn_fields.specs.Rows.{RowForm, first_of, entries_spelling, FitsEntries}
 use Rattle.asn_types.proofs.LengthLemmas.{length_element_lt}
-use Rattle.asn_types.specs.Algorithm.{Algorithm, algorithm_content}
+use Rattle.asn_types.specs.Algorithm.{algorithm_content}
 use Rattle.asn_types.specs.Key.{Key, FitsKey, key_content}
 use Rattle.asn_types.specs.Template.{TemplateForm, FitsTemplate, same, template_content}
 use Rattle.req_forms.specs.Attributes.{AttributeForm, extension_request, other, extension_request_id, attribute_content, requests_in, at_most_one, AttributesForm, IsAttributes}
 use Rattle.req_forms.specs.Controls.{controls_content}
-use Rattle.req_forms.specs.Pkcs10.{InfoForm, P10Form, info_content, p10_content, IsP10}
+use Rattle.req_forms.specs.Pkcs10.{P10Form, info_content, p10_content, IsP10}
 use Rattle.req_forms.specs.Possession.{proof_spelling, signature_element}
 use Rattle.req_forms.specs.Requests.{RequestForm, request_content, MessageForm, message_content, FitsMessage, ReqForm, shown_of, IsCrmf}
 use Rattle.pki_header.specs.Header.{head_content}
 use Rattle.pki_message.specs.Body.{tag_of}
-use Rattle.pki_message.specs.Frame.{message_limit, frame_content}
+use Rattle.pki_message.specs.Frame.{frame_content}
 use Rattle.pki_message.specs.Message as read
 use Rattle.pki_message.specs.Message.{IsMessage, frame_in}
 use Rattle.intake.specs.Told.{FitsAskedKey, IsLimited, AreLimited}
@@ -71,7 +71,7 @@ request_within r h =
     let behind = element 0x30 (template_content r.template) ++ optional_spelling 0x30 controls_content r.controls in
     inside_within 0x30 (template_content r.template) (front_within (element 0x30 (template_content r.template)) (optional_spelling 0x30 controls_content r.controls) (back_within (element 0x02 r.id) behind h))
 
-abbrev IsAskedWithin : ReqForm → Type 0
+abbrev pub IsAskedWithin : ReqForm → Type 0
 IsAskedWithin r = AreLimited r.template.subject r.template.key r.template.exts
 
 message_within : (m : MessageForm) → FitsMessage m → IsLimited (message_content m) → IsAskedWithin (shown_of m)

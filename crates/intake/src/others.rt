@@ -1,5 +1,5 @@
 //! Bodies that are no requests for certificates.
-ghost use Rattle.std.specs.Prelude.{◌≡◌, Bool, List, ℕ, option_map};
+ghost use Rattle.std.specs.Prelude.{◌≡◌, ℕ, List, option_and_then, option_map};
 ghost use Rattle.std.specs.Option.{option_copied};
 ghost use Rattle.asn_types.specs.Algorithm.{algorithm_of};
 ghost use Rattle.asn_types.specs.Template.{extensions_of};
@@ -8,6 +8,7 @@ ghost use Rattle.pki_parts.specs.Polling.{poll_req_of};
 ghost use Rattle.pki_parts.specs.Revocation.{rev_req_of};
 ghost use Rattle.pki_parts.specs.Status.{status_of};
 ghost use Rattle.deal_table.specs.History.{Receipted};
+ghost use Rattle.intake.specs.Values.{number_in};
 ghost use Rattle.intake.specs.Bodies.{status_number, status_in, is_known_hash, capped, confirmation_of, polling_of, reason_of, withdrawal_of};
 ghost use Rattle.intake.specs.Told.{confirming_told, polling_told, withdrawing_told};
 

@@ -1,7 +1,7 @@
 -- the extensions that are left decide
 use Rattle.std.proofs.Common.{◌≡◌, false}
 use Rattle.der_base.specs.Row.{items_left}
-use Rattle.asn_fields.specs.Rows.{entries_at, each_at}
+use Rattle.asn_fields.specs.Rows.{each_at}
 use Rattle.asn_types.specs.Extension.{extension_at}
 use Rattle.intake.specs.Told.{any_in, same_oid}
 use Rattle.intake.proofs.extensions.stands_in.Given as goal
