@@ -8,3 +8,8 @@ pub mod ListLemmas
 pub mod MountLemmas
 pub mod ReceiptLemmas
 pub mod LookLemmas
+pub mod StampLemmas
+pub mod PropLemmas
+pub mod VerdictLemmas
+pub mod RulingLemmas
+pub mod ClerkLemmas

@@ -1,5 +1,6 @@
 -- What a clerk's calls do to the history as it has seen it, and which places are its own.
-use Rattle.std.specs.Prelude.{ℕ, List, [], ◌∷◌, Option}
+use Rattle.std.specs.Prelude.{ℕ, ◌+◌, ◌-◌, List, [], ◌∷◌, length, Option}
+use Rattle.std.specs.List.{range_with_len}
 use Rattle.cmp_ports.specs.declared.order.Order.{Order}
 use Rattle.deal_changes.specs.declared.change.Change.{Change}
 use Rattle.deal_model.specs.Views.{History}
@@ -11,6 +12,10 @@ use Rattle.desk.specs.declared.answers.Ordered.TheVariants as ordered
 use Rattle.desk.specs.declared.verdict.Verdict.{Verdict}
 use Rattle.desk.specs.declared.verdict.Verdict.TheVariants as verdict
 use Rattle.desk.specs.Calls.{IsLapsed, IsOrdered}
+
+-- the places of a history behind its first changes, of which there are so many
+abbrev pub places_since : ℕ → History → List ℕ
+places_since opening h = range_with_len (opening + 1) (length h - opening)
 
 -- the place of the change that was made, where one was
 abbrev pub decided_place : Verdict → List ℕ

@@ -6,3 +6,4 @@ pub mod Founded
 pub mod Verdicts
 pub mod Clerks
 pub mod Mounts
+pub mod Plans

@@ -32,7 +32,7 @@ fn record_of(alloc: Global, c: &Change) -> Result<Option<Record>, AllocError>
 
 impl<D: Disk> Desk<D> {
     /// Settles that what is in doubt doesn't stand on the disk.
-    fn settle(&mut self) -> Result<(), DiskFault>
+    pub(crate) fn settle(&mut self) -> Result<(), DiskFault>
         ensures same { self.new.history ≡ self.old.history }
         ensures clear { OnOk result (self.new.doubt ≡ None) }
         ensures still { OnErr result (IsSome self.old.doubt × (self.new.doubt ≡ self.old.doubt)) }

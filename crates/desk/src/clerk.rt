@@ -1,11 +1,15 @@
 //! Whoever keeps a history for those that answer messages.
-ghost use Rattle.std.specs.Prelude.{◌≡◌, ◌≤◌, ℕ, List, ◌++◌, IfOk};
+ghost use Rattle.std.specs.Prelude.{◌≡◌, ◌≤◌, ℕ, List, ◌++◌, Option, IfSome, IfOk};
+ghost use Rattle.cmp_ports.specs.Disk.{LeavesOnly, Every};
 ghost use Rattle.cmp_ports.specs.Faults.{Rose};
 ghost use Rattle.deal_changes.specs.declared.change.Change.{Change};
 ghost use Rattle.deal_table.specs.History.{Begins, IsFounded, look_of, grant_receipt};
 ghost use Rattle.deal_table.specs.Message.{Letter};
 ghost use Rattle.deal_table.specs.Carry.{FitsChecked, Carries, untold, HashIsTold};
-ghost use Rattle.desk.specs.Verdicts.{Decides, IsInTime};
+ghost use Rattle.desk.specs.Due.{event_time, IsLapse};
+ghost use Rattle.desk.specs.Calls.{IsOrder};
+ghost use Rattle.desk.specs.Images.{RecoversWith, IsDoubt, DoubtOr};
+ghost use Rattle.desk.specs.Verdicts.{Decides, IsInTime, LeftMakes};
 ghost use Rattle.desk.specs.Clerks.{decided_place, lapsed_place, ordered_place, IsLapsedSince, IsOrderedSince};
 
 use crate::answers::{Lapsed, Ordered};
@@ -18,6 +22,9 @@ use std::alloc::AllocError;
 
 /// Keeps a history for those that answer messages, and others may keep it too: what it has seen only grows, and each answer is
 /// about the history that it has seen after the call. Times are a clock's readings in seconds since 1970.
+///
+/// A clerk that has its history to itself tells what a stop at any moment leaves on the disk; one that shares it tells nothing
+/// of that.
 pub trait Clerk {
     /// The history, as far as the clerk has seen it.
     ghost seen: { Self → List Change };
@@ -28,6 +35,19 @@ pub trait Clerk {
     /// How often a disk failed under the clerk's calls.
     ghost faults: { Self → ℕ };
 
+    /// The loan by which what was lent to the clerk is held, by its number. A call keeps it, so whoever lent it knows at the end
+    /// that it is this one.
+    ghost loan: { Self → ℕ };
+
+    /// The change in doubt, where the clerk tells it.
+    ghost doubt: { Self → Option Change };
+
+    /// The moment, as a number that doesn't fall.
+    ghost moment: { Self → ℕ };
+
+    /// What a stop at some moment from that one on might have left on the disk, where the clerk tells it.
+    ghost left_since: { Self → ℕ → List ℕ → Type 0 };
+
     /// What the history tells of a message before it is checked.
     fn look(&mut self, ask: &Ask, now: u64) -> Look
         requires { now ≤ 250000000000 }
@@ -36,14 +56,20 @@ pub trait Clerk {
         ensures founded { IsFounded (seen self.new) }
         ensures time { result.time ≤ 250000000000 }
         ensures mine { mine self.new ≡ mine self.old }
-        ensures faults { faults self.new ≡ faults self.old };
+        ensures faults { faults self.new ≡ faults self.old }
+        ensures loan { loan self.new ≡ loan self.old }
+        ensures doubt { doubt self.new ≡ doubt self.old }
+        ensures moments { LeavesOnly moment left_since self.old self.new (RecoversWith (seen self.old) (IsDoubt (doubt self.old))) };
 
     /// What the reply to a transaction's Grant needs; none exactly where there is no Grant.
     fn granted(&mut self, tid: &Short) -> Result<Option<Receipt>, AllocError>
         ensures grown { Begins (seen self.old) (seen self.new) }
         ensures answer { IfOk result (λ r. r ≡ grant_receipt (seen self.new) tid.now) }
         ensures mine { mine self.new ≡ mine self.old }
-        ensures faults { faults self.new ≡ faults self.old };
+        ensures faults { faults self.new ≡ faults self.old }
+        ensures loan { loan self.new ≡ loan self.old }
+        ensures doubt { doubt self.new ≡ doubt self.old }
+        ensures moments { LeavesOnly moment left_since self.old self.new (RecoversWith (seen self.old) (IsDoubt (doubt self.old))) };
 
     /// Decides a message that was checked, by 32 words drawn for the reply.
     fn decide(&mut self, checked: &Checked<'_>, now: u64, words: &[u8; 32]) -> Verdict
@@ -55,7 +81,12 @@ pub trait Clerk {
         ensures time { IsInTime result }
         ensures mine { mine self.new ≡ mine self.old ++ decided_place result }
         ensures fault { result ≡ Verdict.DiskFault → Rose (faults self.old) (faults self.new) }
-        ensures later { faults self.old ≤ faults self.new };
+        ensures later { faults self.old ≤ faults self.new }
+        ensures loan { loan self.new ≡ loan self.old }
+        // A stop at any moment of the call leaves the history, with the change in doubt behind it, with the message's, or alone;
+        // and only one of these may be in doubt afterwards.
+        ensures doubt { IfSome (doubt self.new) (DoubtOr (doubt self.old) (LeftMakes (seen self.old) checked.now now words.now)) }
+        ensures moments { LeavesOnly moment left_since self.old self.new (RecoversWith (seen self.old) (DoubtOr (doubt self.old) (LeftMakes (seen self.old) checked.now now words.now))) };
 
     /// Takes back the certificate with the least deadline that has come.
     fn lapse(&mut self, now: u64) -> Lapsed
@@ -64,7 +95,10 @@ pub trait Clerk {
         ensures ends { IsLapsedSince (seen self.old) (seen self.new) now result }
         ensures mine { mine self.new ≡ mine self.old ++ lapsed_place result }
         ensures fault { result ≡ Lapsed.DiskFault → Rose (faults self.old) (faults self.new) }
-        ensures later { faults self.old ≤ faults self.new };
+        ensures later { faults self.old ≤ faults self.new }
+        ensures loan { loan self.new ≡ loan self.old }
+        ensures doubt { IfSome (doubt self.new) (DoubtOr (doubt self.old) (IsLapse (seen self.old) (event_time (seen self.old) now))) }
+        ensures moments { LeavesOnly moment left_since self.old self.new (RecoversWith (seen self.old) (DoubtOr (doubt self.old) (IsLapse (seen self.old) (event_time (seen self.old) now)))) };
 
     /// Releases or denies a held request.
     fn order(&mut self, order: &Order, now: u64) -> Ordered
@@ -73,5 +107,12 @@ pub trait Clerk {
         ensures ends { IsOrderedSince (seen self.old) (seen self.new) order.now now result }
         ensures mine { mine self.new ≡ mine self.old ++ ordered_place result }
         ensures fault { result ≡ Ordered.DiskFault → Rose (faults self.old) (faults self.new) }
-        ensures later { faults self.old ≤ faults self.new };
+        ensures later { faults self.old ≤ faults self.new }
+        ensures loan { loan self.new ≡ loan self.old }
+        ensures doubt { IfSome (doubt self.new) (DoubtOr (doubt self.old) (IsOrder order.now (event_time (seen self.old) now))) }
+        ensures moments { LeavesOnly moment left_since self.old self.new (RecoversWith (seen self.old) (DoubtOr (doubt self.old) (IsOrder order.now (event_time (seen self.old) now)))) };
+
+    /// A stop now leaves the history, with the change in doubt behind it or alone.
+    fn stands_for_its_disk(&self)
+        ensures { Every (left_since self.now (moment self.now)) (RecoversWith (seen self.now) (IsDoubt (doubt self.now))) };
 }

@@ -6,11 +6,11 @@ ghost use Rattle.deal_table.specs.History.{IsFounded, standing_for, outer_standi
 
 use crate::desk::Desk;
 use crate::lapsing::event_time;
-use crate::places::{place_of_digest, place_of_grant};
 use crate::receipt::{Receipt, receipt_at};
 use cmp_ports::{Disk, Short};
 use deal_answers::{founding, standing_of, transaction_state};
 use deal_model::{Ask, Brief, Change, Kind, Settings, Standing, common_name};
+use deal_rulings::{place_of_digest, place_of_grant};
 use deal_table::Look;
 use std::alloc::{AllocError, Global};
 
