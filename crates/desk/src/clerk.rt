@@ -1,5 +1,6 @@
 //! Whoever keeps a history for those that answer messages.
 ghost use Rattle.std.specs.Prelude.{◌≡◌, ◌≤◌, ℕ, List, ◌++◌, Option, IfSome, IfOk};
+ghost use Rattle.atomic_table.specs.Seated.{TableId};
 ghost use Rattle.cmp_ports.specs.Disk.{LeavesOnly, Every};
 ghost use Rattle.cmp_ports.specs.Faults.{Rose};
 ghost use Rattle.deal_changes.specs.declared.change.Change.{Change};
@@ -39,6 +40,14 @@ pub trait Clerk {
     /// that it is this one.
     ghost loan: { Self → ℕ };
 
+    /// The loan by which the disk is held, where the clerk tells it.
+    ghost disk_loan: { Self → ℕ };
+
+    /// The turnstile at which the clerk has its seat, where it has one, and for how many seats that counts.
+    ghost table: { Self → Option TableId };
+
+    ghost share: { Self → ℕ };
+
     /// The change in doubt, where the clerk tells it.
     ghost doubt: { Self → Option Change };
 
@@ -58,6 +67,8 @@ pub trait Clerk {
         ensures mine { mine self.new ≡ mine self.old }
         ensures faults { faults self.new ≡ faults self.old }
         ensures loan { loan self.new ≡ loan self.old }
+        ensures disk_loan { disk_loan self.new ≡ disk_loan self.old }
+        ensures seat { (table self.new ≡ table self.old) × (share self.new ≡ share self.old) }
         ensures doubt { doubt self.new ≡ doubt self.old }
         ensures moments { LeavesOnly moment left_since self.old self.new (RecoversWith (seen self.old) (IsDoubt (doubt self.old))) };
 
@@ -68,6 +79,8 @@ pub trait Clerk {
         ensures mine { mine self.new ≡ mine self.old }
         ensures faults { faults self.new ≡ faults self.old }
         ensures loan { loan self.new ≡ loan self.old }
+        ensures disk_loan { disk_loan self.new ≡ disk_loan self.old }
+        ensures seat { (table self.new ≡ table self.old) × (share self.new ≡ share self.old) }
         ensures doubt { doubt self.new ≡ doubt self.old }
         ensures moments { LeavesOnly moment left_since self.old self.new (RecoversWith (seen self.old) (IsDoubt (doubt self.old))) };
 
@@ -83,6 +96,8 @@ pub trait Clerk {
         ensures fault { result ≡ Verdict.DiskFault → Rose (faults self.old) (faults self.new) }
         ensures later { faults self.old ≤ faults self.new }
         ensures loan { loan self.new ≡ loan self.old }
+        ensures disk_loan { disk_loan self.new ≡ disk_loan self.old }
+        ensures seat { (table self.new ≡ table self.old) × (share self.new ≡ share self.old) }
         // A stop at any moment of the call leaves the history, with the change in doubt behind it, with the message's, or alone;
         // and only one of these may be in doubt afterwards.
         ensures doubt { IfSome (doubt self.new) (DoubtOr (doubt self.old) (LeftMakes (seen self.old) checked.now now words.now)) }
@@ -97,6 +112,8 @@ pub trait Clerk {
         ensures fault { result ≡ Lapsed.DiskFault → Rose (faults self.old) (faults self.new) }
         ensures later { faults self.old ≤ faults self.new }
         ensures loan { loan self.new ≡ loan self.old }
+        ensures disk_loan { disk_loan self.new ≡ disk_loan self.old }
+        ensures seat { (table self.new ≡ table self.old) × (share self.new ≡ share self.old) }
         ensures doubt { IfSome (doubt self.new) (DoubtOr (doubt self.old) (IsLapse (seen self.old) (event_time (seen self.old) now))) }
         ensures moments { LeavesOnly moment left_since self.old self.new (RecoversWith (seen self.old) (DoubtOr (doubt self.old) (IsLapse (seen self.old) (event_time (seen self.old) now)))) };
 
@@ -109,6 +126,8 @@ pub trait Clerk {
         ensures fault { result ≡ Ordered.DiskFault → Rose (faults self.old) (faults self.new) }
         ensures later { faults self.old ≤ faults self.new }
         ensures loan { loan self.new ≡ loan self.old }
+        ensures disk_loan { disk_loan self.new ≡ disk_loan self.old }
+        ensures seat { (table self.new ≡ table self.old) × (share self.new ≡ share self.old) }
         ensures doubt { IfSome (doubt self.new) (DoubtOr (doubt self.old) (IsOrder order.now (event_time (seen self.old) now))) }
         ensures moments { LeavesOnly moment left_since self.old self.new (RecoversWith (seen self.old) (DoubtOr (doubt self.old) (IsOrder order.now (event_time (seen self.old) now)))) };
 

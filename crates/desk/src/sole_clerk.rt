@@ -1,5 +1,5 @@
 //! A clerk that has its desk to itself.
-ghost use Rattle.std.specs.Prelude.{◌≡◌, ◌≤◌, ℕ, length};
+ghost use Rattle.std.specs.Prelude.{◌≡◌, ◌≤◌, ℕ, length, None};
 
 use crate::answers::{Lapsed, Ordered};
 use crate::clerk::Clerk;
@@ -41,6 +41,12 @@ impl<'a, D: Disk> Clerk for SoleClerk<'a, D> {
     ghost faults = { λ k. D.faults k.desk.now.disk };
 
     ghost loan = { λ k. k.desk.ghost_name };
+
+    ghost disk_loan = { λ k. D.loan k.desk.now.disk };
+
+    ghost table = { λ _. None };
+
+    ghost share = { λ _. 0 };
 
     ghost doubt = { λ k. k.desk.now.doubt };
 
