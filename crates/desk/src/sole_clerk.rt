@@ -12,6 +12,7 @@ use deal_table::Look;
 use std::alloc::AllocError;
 
 /// A clerk over a lent desk, which nobody else has meanwhile: what it has seen is the desk's history.
+#[derive(Drop)]
 pub struct SoleClerk<'a, D: Disk> {
     desk: &'a mut Desk<D>,
     /// How many changes the desk had when it was lent.
