@@ -2,3 +2,6 @@ pub mod KeyFile
 pub mod Certificates
 pub mod Keys
 pub mod Parts
+pub mod Messages
+pub mod Guards
+pub mod Refusals

@@ -1,12 +1,17 @@
-//! The authority's own keys, grown from its key file, with the certificates that it has under them.
+//! The messages that an authority answers with (RFC 9810, 5.3), and its own keys, grown from its key file, with the certificates
+//! that it has under them.
 #![tactic(auto)]
 
 mod certificates;
+mod fields;
 mod key_file;
 mod keys;
+mod message;
+mod refusals;
 #[cfg(test)]
 mod tests;
 mod trees;
 
 pub use key_file::KeyFault;
 pub use keys::Keys;
+pub use refusals::{Guard, refuse};

@@ -1,0 +1,192 @@
+//! Refusals.
+ghost use Rattle.std.specs.Prelude.{◌≡◌, ◌≢◌, ℕ, ◌+◌, ◌^◌, ◌<◌, ◌≤◌, [], length, Some, None, IfOk, IsSome, option_map, unwrap_or};
+ghost use Rattle.std.specs.Option.{option_copied};
+ghost use Rattle.der_base.specs.Element.{element};
+ghost use Rattle.deal_table.specs.History.{brief_of};
+ghost use Rattle.deal_table.specs.Message.{echoed};
+ghost use Rattle.pki_header.specs.Plan.{field_size, plan_size};
+ghost use Rattle.reply_maker.specs.Refusals.{refusal_header, refusal_body, refusal_of};
+ghost use Rattle.reply_maker.specs.Messages.{nonce_in, salt_in};
+
+use crate::fields::{authority, field, nonce_in, recipient_for, salt_in};
+use crate::keys::Keys;
+use crate::message::message;
+use cmp_ports::{FailInfo, Octets, Short};
+use deal_model::{Brief, Echo};
+use der_base::Writer;
+use desk::brief_of;
+use hss_sig::OneLevel;
+use pki_header::HeaderPlan;
+use pki_parts::{write_error, write_status};
+use protect::How;
+use std::alloc::{AllocError, Global};
+
+/// The secret that protects a refusal, and the reference that its sender is known by.
+#[derive(Clone, Copy)]
+pub struct Guard {
+    pub kid: Short,
+    pub secret: Short,
+}
+
+ghost use Rattle.reply_maker.specs.Guards.{secret_in};
+
+/// The body of a refusal: an error message (RFC 9810, 5.3.21).
+#[tactic(auto, using(asn_types::proofs::LengthLemmas::short))]
+fn refusal_body(alloc: Global, fail: FailInfo) -> Result<Octets, AllocError>
+    ensures written { IfOk result (λ octets. octets ≡ refusal_body fail) }
+    ensures short { IfOk result (λ octets. length octets ≤ 1024) }
+{
+    let status = write_status(alloc, 2, Some(fail.name()), Some(fail))?;
+    let error = write_error(alloc, status.as_slice())?;
+    let mut writer = Writer::new(alloc);
+    writer.put(0xb7, error.as_slice())?;
+    Ok(Octets::of(writer.finish()))
+}
+
+/// The reference of a guard.
+fn kid_of(guard: Option<&Guard>) -> Option<Short>
+    ensures { result ≡ option_map (λ g. g.kid) (option_map secret_in (option_copied guard.entry)) }
+{
+    match guard {
+        Some(guard) => Some(guard.kid),
+        None => None,
+    }
+}
+
+/// The senderNonce, where words were drawn.
+fn nonce_of(alloc: Global, words: Option<&[u8; 32]>) -> Result<Option<Octets>, AllocError>
+    ensures written { IfOk result (λ octets. octets ≡ option_map nonce_in (option_copied words.entry)) }
+    ensures short { IfOk result (λ octets. field_size octets ≤ 64) }
+{
+    match words {
+        Some(words) => Ok(Some(nonce_in(alloc, words)?)),
+        None => Ok(None),
+    }
+}
+
+/// The header of a refusal.
+fn refusal_header(
+    alloc: Global,
+    keys: &Brief,
+    echo: &Echo,
+    guard: Option<&Guard>,
+    time: u64,
+    words: Option<&[u8; 32]>,
+) -> Result<HeaderPlan, AllocError>
+    requires { length echo.now.sender.now ≤ 131_072 }
+    ensures written { IfOk result (λ p. p ≡ refusal_header keys.now (echoed echo.now) (option_map secret_in (option_copied guard.entry)) time (option_copied words.entry)) }
+    ensures short { IfOk result (λ p. plan_size p ≤ 2 ^ 18) }
+{
+    Ok(HeaderPlan {
+        pvno: echo.pvno,
+        sender: authority(alloc, keys)?,
+        recipient: recipient_for(alloc, echo.sender)?,
+        time: Some(time),
+        alg: None,
+        sender_kid: field(alloc, &kid_of(guard))?,
+        recip_kid: None,
+        tid: field(alloc, &echo.tid)?,
+        sender_nonce: nonce_of(alloc, words)?,
+        recip_nonce: field(alloc, &echo.nonce)?,
+        free_text: None,
+        info: None,
+    })
+}
+
+/// A refusal that nothing protects.
+#[tactic(auto, unfolding(crate::specs::Refusals::refusal_of))]
+fn unprotected(
+    alloc: Global,
+    keys: &Brief,
+    echo: &Echo,
+    fail: FailInfo,
+    time: u64,
+    words: Option<&[u8; 32]>,
+) -> Result<Octets, AllocError>
+    requires time { time ≤ 250_000_000_000 }
+    requires sender { length echo.now.sender.now ≤ 131_072 }
+    ensures { IfOk result (λ octets. octets ≡ refusal_of keys.now (echoed echo.now) fail None time (option_copied words.entry)) }
+{
+    let header = refusal_header(alloc, keys, echo, None, time, words)?;
+    let body = refusal_body(alloc, fail)?;
+    let how: How<'_, OneLevel> = How::Nothing;
+    message(alloc, &header, body.as_slice(), &how, None)
+}
+
+/// A refusal that the MAC of a secret protects.
+#[tactic(auto, unfolding(crate::specs::Refusals::refusal_of))]
+fn guarded(
+    alloc: Global,
+    keys: &Brief,
+    echo: &Echo,
+    fail: FailInfo,
+    guard: &Guard,
+    time: u64,
+    words: &[u8; 32],
+) -> Result<Octets, AllocError>
+    requires time { time ≤ 250_000_000_000 }
+    requires sender { length echo.now.sender.now ≤ 131_072 }
+    requires rounds { 1 ≤ keys.now.rounds }
+    ensures { IfOk result (λ octets. octets ≡ refusal_of keys.now (echoed echo.now) fail (Some (secret_in guard.now)) time (Some words.now)) }
+{
+    let header = refusal_header(alloc, keys, echo, Some(guard), time, Some(words))?;
+    let body = refusal_body(alloc, fail)?;
+    let how: How<'_, OneLevel> = How::Mac {
+        secret: guard.secret,
+        salt: salt_in(words),
+        rounds: keys.rounds,
+    };
+    message(alloc, &header, body.as_slice(), &how, None)
+}
+
+/// A refusal under these settings.
+fn refusal(
+    alloc: Global,
+    keys: &Brief,
+    echo: &Echo,
+    fail: FailInfo,
+    guard: Option<&Guard>,
+    time: u64,
+    words: Option<&[u8; 32]>,
+) -> Result<Octets, AllocError>
+    requires time { time ≤ 250_000_000_000 }
+    requires sender { length echo.now.sender.now ≤ 131_072 }
+    requires rounds { 1 ≤ keys.now.rounds }
+    requires drawn { IsSome guard → IsSome words }
+    ensures { IfOk result (λ octets. octets ≡ refusal_of keys.now (echoed echo.now) fail (option_map secret_in (option_copied guard.entry)) time (option_copied words.entry)) }
+{
+    let Some(guard) = guard else {
+        return unprotected(alloc, keys, echo, fail, time, words);
+    };
+    let Some(words) = words else { unreachable!() };
+    guarded(alloc, keys, echo, fail, guard, time, words)
+}
+
+/// Writes a refusal: an error message (RFC 9810, 5.3.21) that answers a message with its reason, at a second. It is protected by
+/// the MAC of the guard's secret, where there is a guard; the words are drawn for it, and only a failure of the service itself has
+/// none, which nothing protects. `AllocError` where memory runs out.
+pub fn refuse(
+    alloc: Global,
+    keys: &Keys,
+    echo: &Echo,
+    fail: FailInfo,
+    guard: Option<&Guard>,
+    time: u64,
+    words: Option<&[u8; 32]>,
+) -> Result<Octets, AllocError>
+    requires time { time ≤ 250_000_000_000 }
+    requires sender { length echo.now.sender.now ≤ 131_072 }
+    requires drawn { fail ≢ FailInfo.SystemFailure → IsSome words }
+    requires bare { fail ≡ FailInfo.SystemFailure → guard ≡ None }
+    ensures { IfOk result (λ octets. octets ≡ refusal_of (brief_of keys.now.settings) (echoed echo.now) fail (option_map secret_in (option_copied guard.entry)) time (option_copied words.entry)) }
+{
+    refusal(
+        alloc,
+        &brief_of(keys.settings()),
+        echo,
+        fail,
+        guard,
+        time,
+        words,
+    )
+}
