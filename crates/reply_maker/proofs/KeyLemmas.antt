@@ -1,10 +1,10 @@
 -- The trees of a key file are its keys.
-use Rattle.std.specs.Prelude.{ℕ, ◌≡◌, ◌≢◌, List, Bool, false, Option, Result, Ok, Err, refl}
+use Rattle.std.specs.Prelude.{ℕ, ◌≡◌, ◌≢◌, List, false, Option, Err, refl}
 use Rattle.std.proofs.Common.{sym, ◌∙◌, ap, subst}
 use Rattle.lms_tree.specs.Keys.{Secret}
 use Rattle.hss_sig.specs.OneLevel.{hss_key}
 use Rattle.deal_changes.specs.declared.change.Settings.{Settings}
-use Rattle.reply_maker.specs.KeyFile.{IsKeyFile, key_file, issue_seed, issue_id, reply_seed, reply_id}
+use Rattle.reply_maker.specs.KeyFile.{IsKeyFile}
 use Rattle.reply_maker.specs.declared.key_file.KeyFile.{KeyFile}
 use Rattle.reply_maker.specs.declared.key_file.KeyFault.{KeyFault}
 use Rattle.reply_maker.specs.declared.key_file.KeyFault.TheVariants.{KeyMismatch}

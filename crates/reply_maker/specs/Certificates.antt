@@ -1,5 +1,5 @@
 -- The certificates that an authority has of its own keys (RFC 5280, 4.1; RFC 9802, 5), signed by its issuing key.
-use Rattle.std.specs.Prelude.{ℕ, ◌≡◌, List}
+use Rattle.std.specs.Prelude.{ℕ, List}
 use Rattle.hss_sig.specs.OneLevel.{hss_signature}
 use Rattle.lms_tree.specs.Keys.{Secret}
 use Rattle.deal_changes.specs.declared.change.Settings.{Settings}

@@ -1,7 +1,4 @@
 -- The trees are those of the key file, and what is kept is made of them.
-use Rattle.std.proofs.Common.{◌≡◌, false}
-use Rattle.reply_maker.specs.Keys.{Agrees, are_blank}
-use Rattle.reply_maker.specs.Parts.{joined}
 use Rattle.reply_maker.proofs.KeyLemmas.{AreGrown, agrees, kept, loaded_is, differs}
 use Rattle.reply_maker.proofs.keys.Keys.grown.Goals as goal
 
