@@ -5,3 +5,4 @@ pub mod Parts
 pub mod Messages
 pub mod Guards
 pub mod Refusals
+pub mod Replies

@@ -2,6 +2,7 @@
 //! that it has under them.
 #![tactic(auto)]
 
+mod bodies;
 mod certificates;
 mod fields;
 mod key_file;
