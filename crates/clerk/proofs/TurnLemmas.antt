@@ -1,0 +1,27 @@
+-- What a turn did to the history that a seat has seen, and to its marks.
+use Rattle.std.proofs.Common.{◌≡◌, ℕ, ◌≤◌, List, ◌++◌, Option, Some, None, sym, ◌∙◌, ap, subst, append_assoc}
+use Rattle.std.specs.Prelude.{MatchOption}
+use Rattle.deal_model.specs.Views.{History}
+use Rattle.deal_model.specs.declared.asking.Checked.{Checked}
+use Rattle.deal_table.specs.History.{Begins}
+use Rattle.deal_table.specs.Message.{Letter}
+use Rattle.desk.specs.declared.verdict.Verdict.{Verdict}
+use Rattle.desk.specs.declared.verdict.Verdict.TheVariants.{Done, Again, Refused, Stale, DiskFault, NoMemory}
+use Rattle.desk.specs.Verdicts.{IsDone, Decides}
+
+pub begins_on : (xs ys zs : History) → Begins xs ys → Begins ys zs → Begins xs zs
+begins_on xs ys zs first second = (first.0 ++ second.0, second.1 ∙ ap (λ (l : History). l ++ second.0) first.1 ∙ append_assoc xs first.0 second.0)
+
+-- a mark that was handed in raised the count
+pub marked : {M : Type 0} (mark : Option M) (Failed R : Type 0) (P : M → Type 0) → MatchOption mark (Failed → ⊥) P → MatchOption mark (Unit {0}) (λ m. R) → Failed → R
+marked None Failed R P none rose failed = absurd (none failed)
+marked (Some m) Failed R P some rose failed = rose
+
+-- a message that is decided over a history is decided so by whoever has seen a beginning of it
+pub decides_earlier : (l : Letter) (c : Checked) (seen old new : History) (now : ℕ) (w : List ℕ) (v : Verdict) → Begins seen old → Decides l c old new now w v → Decides l c seen new now w v
+decides_earlier l c seen old new now w (Done r) begun d = record { before = d.before; begun = begins_on seen old d.before begun d.begun; decided = d.decided; made = d.made }
+decides_earlier l c seen old new now w (Again r place time) begun d = d
+decides_earlier l c seen old new now w (Refused fail place time is_guarded to_outer) begun d = d
+decides_earlier l c seen old new now w (Stale place) begun d = d
+decides_earlier l c seen old new now w DiskFault begun d = d
+decides_earlier l c seen old new now w NoMemory begun d = d

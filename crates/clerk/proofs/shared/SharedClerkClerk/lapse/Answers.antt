@@ -1,0 +1,16 @@
+use Rattle.std.proofs.Common.{◌≡◌, sym, ◌∙◌, ap, subst, arith}
+use Rattle.deal_model.specs.Views.{History}
+use Rattle.deal_table.specs.History.{Begins}
+use Rattle.desk.specs.Due.{event_time}
+use Rattle.desk.proofs.ClerkLemmas.{lapsed_gains}
+use Rattle.clerk.proofs.TurnLemmas.{begins_on}
+use Rattle.clerk.proofs.shared.SharedClerkClerk.lapse.Goals as goal
+
+pub returns-clause-grown : goal.returns-clause-grown
+returns-clause-grown g c =
+    let seen = c.args.self.now.seat.me.0.seen in
+    let desk = c.enter-desk.result in
+    let after = c.lapse-end.new.self in
+    let now_seen : c.leave.new.seat.me.0.seen ≡ after.history.items = ap (λ m. m.0.seen) c.leave.ensures.left ∙ ap (λ h. h.items) c.keep_mark.ensures.history in
+    let gains = lapsed_gains 0 desk.history.items desk.doubt (event_time desk.history.items c.args.now) c.lapse-end.result after.history.items after.doubt (omega arith) c.lapse-end.ensures.ends in
+    subst (λ (l : History). Begins seen l) (sym now_seen) (begins_on seen desk.history.items after.history.items c.enter-desk.ensures.later gains.begun)
