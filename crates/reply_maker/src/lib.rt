@@ -9,6 +9,8 @@ mod key_file;
 mod keys;
 mod message;
 mod refusals;
+#[cfg(test)]
+mod tests;
 mod trees;
 
 pub use key_file::KeyFault;
