@@ -2,3 +2,6 @@ pub mod RunLemmas
 pub mod MacLemmas
 pub mod CauseLemmas
 pub mod ShowLemmas
+mod FileLemmas
+mod ChangeLemmas
+mod EnlistLemmas

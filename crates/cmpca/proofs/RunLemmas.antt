@@ -4,11 +4,16 @@ use Rattle.std.proofs.Common.{arith, sym, subst, inl, inr, length-take-le}
 use Rattle.std.proofs.lemmas.List.{take_all}
 use Rattle.std.proofs.lemmas.Bool.{cases_lt}
 use Rattle.journal_core.specs.declared.fault.MountFault.TheVariants as mounts
+use Rattle.cmp_ports.specs.declared.order.Order.TheVariants as orders
+use Rattle.deal_changes.specs.declared.change.Kind.{Kind}
 use Rattle.pki_message.specs.Frame.{FrameForm, IsFrame, message_limit}
 use Rattle.cmpca.specs.declared.words.Command.{Command}
-use Rattle.cmpca.specs.declared.words.Command.TheVariants.{Verify}
+use Rattle.cmpca.specs.declared.words.Command.TheVariants.{Verify, Show, Enlist, Dismiss, Release, Deny}
 use Rattle.cmpca.specs.Causes.{IsSoleVerdict}
-use Rattle.cmpca.specs.Reply.{Ran, Wrote, IsReply, IsVerifyReply, IsShowReply, TellsVerdict, verdict_status, verdict_line, usage_line, line}
+use Rattle.cmpca.specs.Lines.{line}
+use Rattle.cmpca.specs.Changes.{DiskRun}
+use Rattle.cmpca.specs.Deeds.{Enlists, IsFileListed, Dismisses, IsDismissedAt}
+use Rattle.cmpca.specs.Reply.{Ran, Replied, Wrote, IsReply, IsVerifyReply, IsShowReply, IsChangeReply, IsOrderReply, TellsVerdict, verdict_status, verdict_line, usage_line}
 use Rattle.cmpca.specs.declared.verdict.Verdict.{Verdict}
 use Rattle.cmpca.specs.declared.verdict.Verdict.TheVariants.{Verified, BadDataFormat, Unprotected, BadAlg, WrongMac}
 use Rattle.cmpca.specs.declared.status.Status.{Status}
@@ -54,34 +59,83 @@ told_reply secret input text Unprotected h = h
 told_reply secret input text BadAlg h = h
 told_reply secret input text WrongMac h = h
 
+-- a reply of this form was written
+pub replied : (IsForm : Status → List ℕ → Type 0) (old new : Option (List ℕ)) (reply status : Status) (text : List ℕ) → IsForm reply text → Wrote old new reply text status → Replied IsForm old new status
+replied IsForm old new reply status text is wrote = record { reply = reply; text = text; is_reply = is; wrote = wrote }
+
+-- a reply of one form is one of another
+pub reformed : (P Q : Status → List ℕ → Type 0) (old new : Option (List ℕ)) (status : Status) → ((reply : Status) (text : List ℕ) → P reply text → Q reply text) → Replied P old new status → Replied Q old new status
+reformed P Q old new status form r = record { reply = r.reply; text = r.text; is_reply = form r.reply r.text r.is_reply; wrote = r.wrote }
+
+-- a run whose reply isn't by the input
+pub ran_any : (left : Option (List ℕ)) (P : Status → List ℕ → Type 0) (Q : List ℕ → Status → List ℕ → Type 0) (old new : Option (List ℕ)) (status : Status)
+    → ((input : List ℕ) (reply : Status) (text : List ℕ) → P reply text → Q input reply text) → Replied P old new status → Ran left Q old new status
+ran_any left P Q old new status form r =
+    let i = some_input left in
+    record { input = i.0; read = i.1; replied = reformed P (Q i.0) old new status (form i.0) r }
+
+-- a run whose reply is by the input
+pub ran_form : (left : Option (List ℕ)) (P Q : List ℕ → Status → List ℕ → Type 0) (old new : Option (List ℕ)) (status : Status)
+    → ((input : List ℕ) (reply : Status) (text : List ℕ) → P input reply text → Q input reply text) → Ran left P old new status → Ran left Q old new status
+ran_form left P Q old new status form r = record { input = r.input; read = r.read; replied = reformed (P r.input) (Q r.input) old new status (form r.input) r.replied }
+
+-- ---- verify
+
 -- the run that tells a verdict
-pub ran_verdict : (left content old new : Option (List ℕ)) (reply status : Status) (secret octets text : List ℕ) (v : Verdict)
+pub ran_verdict : (left old new : Option (List ℕ)) (reply status : Status) (secret octets text : List ℕ) (v : Verdict)
     → IfSome left (λ all. octets ≡ take (message_limit + 1) all) → IsSoleVerdict secret octets v
-    → reply ≡ verdict_status v → text ≡ verdict_line v → Wrote old new reply text status → Ran (Some (Verify secret)) left content old new status
-ran_verdict left content old new reply status secret octets text v read is ends says wrote =
+    → reply ≡ verdict_status v → text ≡ verdict_line v → Wrote old new reply text status → Ran left (IsVerifyReply secret) old new status
+ran_verdict left old new reply status secret octets text v read is ends says wrote =
     let i = told_input left secret octets v read is in
     record {
       input = i.input;
-      reply = verdict_status v;
-      text = text;
       read = i.read;
-      is_reply = told_reply secret i.input text v record { verdict = v; is_verdict = i.is_verdict; ends = refl; says = says };
-      wrote = subst (λ (r : Status). Wrote old new r text status) ends wrote;
+      replied = replied (IsVerifyReply secret i.input) old new (verdict_status v) status text
+          (told_reply secret i.input text v record { verdict = v; is_verdict = i.is_verdict; ends = refl; says = says })
+          (subst (λ (r : Status). Wrote old new r text status) ends wrote);
     }
 
--- a run whose reply doesn't depend on the input
-pub ran : (command : Option Command) (left content old new : Option (List ℕ)) (reply status : Status) (text : List ℕ)
-    → ((input : List ℕ) → IsReply command input content reply text) → Wrote old new reply text status → Ran command left content old new status
-ran command left content old new reply status text is_reply wrote =
+-- the run whose input isn't read
+pub ran_unread : (left old new : Option (List ℕ)) (reply status : Status) (secret text : List ℕ) → ((input : List ℕ) → IsVerifyReply secret input reply text) → Wrote old new reply text status → Ran left (IsVerifyReply secret) old new status
+ran_unread left old new reply status secret text is wrote =
     let i = some_input left in
-    record { input = i.0; reply = reply; text = text; read = i.1; is_reply = is_reply i.0; wrote = wrote }
+    record { input = i.0; read = i.1; replied = replied (IsVerifyReply secret i.0) old new reply status text (is i.0) wrote }
 
--- the run whose words are of no form
-pub ran_usage : (command : Option Command) (left content old new : Option (List ℕ)) (status : Status) → command ≡ None → Wrote old new Usage usage_line status → Ran command left content old new status
-ran_usage command left content old new status none wrote =
-    subst (λ (o : Option Command). Ran o left content old new status) (sym none) (ran None left content old new Usage status usage_line (λ (input : List ℕ). (refl, refl)) wrote)
+-- ---- show
 
 -- what show replies where memory runs out
 pub no_memory_reply : (content : Option (List ℕ)) → IsShowReply content NoMemory (line (codes "no memory"))
 no_memory_reply None = inr record { fault = mounts.NoMemory; unmounted = tt; ends = refl; says = refl }
 no_memory_reply (Some f) = inr record { fault = mounts.NoMemory; unmounted = tt; ends = refl; says = refl }
+
+-- ---- each command of the words
+
+module _ (o : Option Command) (left : Option (List ℕ)) (IsReading : ℕ → Type 0) (disk : DiskRun) (old new : Option (List ℕ)) (status : Status) where
+  -- the run for what the words ask for
+  abbrev Run : Type 0
+  Run = Ran left (IsReply o IsReading disk) old new status
+
+  -- the same, for a command
+  as_asked : (command : Option Command) → o ≡ command → Ran left (IsReply command IsReading disk) old new status → Run
+  as_asked command asked r = subst (λ (c : Option Command). Ran left (IsReply c IsReading disk) old new status) (sym asked) r
+
+  pub asked_nothing : o ≡ None → Wrote old new Usage usage_line status → Run
+  asked_nothing none wrote = as_asked None none (ran_any left _ _ old new status (λ input reply text is. is) (replied (λ reply text. (reply ≡ Usage) × (text ≡ usage_line)) old new Usage status usage_line (refl, refl) wrote))
+
+  pub asked_verify : (secret : List ℕ) → o ≡ Some (Verify secret) → Ran left (IsVerifyReply secret) old new status → Run
+  asked_verify secret asked r = as_asked (Some (Verify secret)) asked (ran_form left _ _ old new status (λ input reply text is. is) r)
+
+  pub asked_show : o ≡ Some Show → Replied (IsShowReply disk.content_before) old new status → Run
+  asked_show asked r = as_asked (Some Show) asked (ran_any left _ _ old new status (λ input reply text is. is) r)
+
+  pub asked_enlist : (now : ℕ) → IsReading now → o ≡ Some Enlist → Ran left (λ file. IsChangeReply disk (Enlists file now) (IsFileListed file now)) old new status → Run
+  asked_enlist now reading asked r = as_asked (Some Enlist) asked (ran_form left _ _ old new status (λ input reply text is. (now, reading, is)) r)
+
+  pub asked_dismiss : (now : ℕ) (kind : Kind) (id : List ℕ) → IsReading now → o ≡ Some (Dismiss kind id) → Replied (IsChangeReply disk (Dismisses kind id now) (IsDismissedAt kind id now)) old new status → Run
+  asked_dismiss now kind id reading asked r = as_asked (Some (Dismiss kind id)) asked (ran_any left _ _ old new status (λ input reply text is. (now, reading, is)) r)
+
+  pub asked_release : (now : ℕ) (tid : List ℕ) → IsReading now → o ≡ Some (Release tid) → Replied (IsOrderReply disk (orders.Release tid) (line (codes "released")) now) old new status → Run
+  asked_release now tid reading asked r = as_asked (Some (Release tid)) asked (ran_any left _ _ old new status (λ input reply text is. (now, reading, is)) r)
+
+  pub asked_deny : (now : ℕ) (tid : List ℕ) → IsReading now → o ≡ Some (Deny tid) → Replied (IsOrderReply disk (orders.Deny tid) (line (codes "denied")) now) old new status → Run
+  asked_deny now tid reading asked r = as_asked (Some (Deny tid)) asked (ran_any left _ _ old new status (λ input reply text is. (now, reading, is)) r)

@@ -8,7 +8,8 @@ use Rattle.deal_model.specs.Rules.{Legal}
 use Rattle.deal_lines.specs.Lines.{lines_of}
 use Rattle.desk.specs.Mounts.{Stands, Refuses}
 use Rattle.desk_laws.specs.Answers.{Holds}
-use Rattle.cmpca.specs.Reply.{IsShowReply, IsUnmounted, IsAnswer, fault_status, fault_line}
+use Rattle.cmpca.specs.Mounts.{IsUnmounted, IsAnswer, fault_status, fault_line}
+use Rattle.cmpca.specs.Reply.{IsShowReply}
 use Rattle.cmpca.specs.declared.status.Status.{Status}
 use Rattle.cmpca.specs.declared.status.Status.TheVariants.{Done}
 
@@ -17,14 +18,14 @@ abbrev pub OneAnswer : Type 0
 OneAnswer = (image : List ℕ) (x y : Result History MountFault) → Holds image x → Holds image y → x ≡ y
 
 -- what holds of a content that is told
-told : (content : Option (List ℕ)) (P : List ℕ → Type 0) → ((f : List ℕ) → content ≡ Some f → P f) → IfSome content (λ f. P f)
+pub told : (content : Option (List ℕ)) (P : List ℕ → Type 0) → ((f : List ℕ) → content ≡ Some f → P f) → IfSome content (λ f. P f)
 told None P h = tt
 told (Some f) P h = h f refl
 
-answer : OneAnswer → (f : List ℕ) (x : Result History MountFault) → Holds f x → IsAnswer f x
+pub answer : OneAnswer → (f : List ℕ) (x : Result History MountFault) → Holds f x → IsAnswer f x
 answer one f x holds = record { holds = holds; sole = λ y other. one f y x other holds }
 
-unmounted : OneAnswer → (f : List ℕ) (fault : MountFault) → Refuses f fault → IsUnmounted f fault
+pub unmounted : OneAnswer → (f : List ℕ) (fault : MountFault) → Refuses f fault → IsUnmounted f fault
 unmounted one f mounts.NotFounded refused = answer one f (Err mounts.NotFounded) refused
 unmounted one f (mounts.Damaged at) refused = answer one f (Err (mounts.Damaged at)) refused
 unmounted one f mounts.DiskFault refused = tt

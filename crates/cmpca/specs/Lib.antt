@@ -2,4 +2,8 @@ pub mod Status
 pub mod Words
 pub mod Verdict
 pub mod Causes
+pub mod Lines
+pub mod Mounts
+pub mod Changes
+pub mod Deeds
 pub mod Reply

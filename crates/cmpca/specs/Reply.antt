@@ -1,25 +1,24 @@
--- What a run of the program writes and how it ends, as a function of its words, its input and what its disk holds.
-use Rattle.std.specs.Prelude.{ℕ, ◌≡◌, Result, Ok, Err, List, [], ◌∷◌, ◌++◌, Option, Some, None, IfSome, codes, ◌⊎◌}
-use Rattle.std.specs.Fmt.{decimal}
+-- What a run of the program writes and how it ends, by its words, its input, the clock's reading and what its disk holds.
+use Rattle.std.specs.Prelude.{ℕ, ◌≡◌, Result, Ok, List, Option, Some, None, IfSome, codes, ◌⊎◌}
 use Rattle.std.specs.Io.KnownBytes.{Appends}
+use Rattle.cmp_ports.specs.declared.order.Order.{Order}
+use Rattle.cmp_ports.specs.declared.order.Order.TheVariants as orders
 use Rattle.cmp_ports.specs.Whole.{AppendsPrefix}
+use Rattle.deal_changes.specs.declared.change.Change.{Change}
 use Rattle.deal_model.specs.Views.{History}
 use Rattle.deal_model.specs.Rules.{Legal}
 use Rattle.deal_lines.specs.Lines.{lines_of}
-use Rattle.desk_laws.specs.Answers.{Holds}
-use Rattle.journal_core.specs.declared.fault.MountFault.{MountFault}
-use Rattle.journal_core.specs.declared.fault.MountFault.TheVariants as mounts
+use Rattle.cmpca.specs.Lines.{line}
+use Rattle.cmpca.specs.Mounts.{IsAnswer, TellsFault}
+use Rattle.cmpca.specs.Changes.{DiskRun, IsUnchanged, Deed, IsChanged}
+use Rattle.cmpca.specs.Deeds.{Enlists, IsFileListed, Dismisses, IsDismissedAt, Obeys, IsOrderedAt}
 use Rattle.cmpca.specs.Causes.{IsSoleVerdict}
 use Rattle.cmpca.specs.declared.words.Command.{Command}
-use Rattle.cmpca.specs.declared.words.Command.TheVariants.{Verify, Show}
+use Rattle.cmpca.specs.declared.words.Command.TheVariants.{Verify, Show, Enlist, Dismiss, Release, Deny}
 use Rattle.cmpca.specs.declared.verdict.Verdict.{Verdict}
 use Rattle.cmpca.specs.declared.verdict.Verdict.TheVariants.{Verified, BadDataFormat, Unprotected, BadAlg, WrongMac}
 use Rattle.cmpca.specs.declared.status.Status.{Status}
-use Rattle.cmpca.specs.declared.status.Status.TheVariants.{Done, Refused, Usage, ReadFault, WriteFault, DiskFault, NoMemory, Damaged, NotFounded}
-
--- a text and the end of its line
-abbrev pub line : List ℕ → List ℕ
-line text = text ++ 10 ∷ []
+use Rattle.cmpca.specs.declared.status.Status.TheVariants.{Done, Refused, Usage, ReadFault, WriteFault, NoMemory}
 
 -- the line that names the words
 abbrev pub usage_line : List ℕ
@@ -59,39 +58,7 @@ IsVerifyReply secret input ReadFault text = text ≡ line (codes "read fault")
 IsVerifyReply secret input NoMemory text = text ≡ line (codes "no memory")
 IsVerifyReply secret input _ text = ⊥
 
--- ---- a journal's commands
-
--- how a run ends whose disk is not mounted, and what it writes
-abbrev pub fault_status : MountFault → Status
-fault_status mounts.NotFounded = NotFounded
-fault_status (mounts.Damaged at) = Damaged at
-fault_status mounts.DiskFault = DiskFault
-fault_status mounts.NoMemory = NoMemory
-
-abbrev pub fault_line : MountFault → List ℕ
-fault_line mounts.NotFounded = line (codes "not founded")
-fault_line (mounts.Damaged at) = line (codes "damaged at " ++ decimal at)
-fault_line mounts.DiskFault = line (codes "disk fault")
-fault_line mounts.NoMemory = line (codes "no memory")
-
--- this answer of a mount holds of the content, and no other does
-pub record IsAnswer (f : List ℕ) (answer : Result History MountFault) : Type 0 where
-  pub holds : Holds f answer
-  pub sole : (other : Result History MountFault) → Holds f other → other ≡ answer
-
--- the content is why a disk is not mounted; a fault of the disk and want of memory say nothing of it
-abbrev pub IsUnmounted : List ℕ → MountFault → Type 0
-IsUnmounted f mounts.NotFounded = IsAnswer f (Err mounts.NotFounded)
-IsUnmounted f (mounts.Damaged at) = IsAnswer f (Err (mounts.Damaged at))
-IsUnmounted f mounts.DiskFault = Unit {0}
-IsUnmounted f mounts.NoMemory = Unit {0}
-
--- The status and the text are those of a fault of the mount, which is that of the disk's content where it is told.
-pub record TellsFault (content : Option (List ℕ)) (status : Status) (text : List ℕ) : Type 0 where
-  pub fault : MountFault
-  pub unmounted : IfSome content (λ f. IsUnmounted f fault)
-  pub ends : status ≡ fault_status fault
-  pub says : text ≡ fault_line fault
+-- ---- show
 
 -- The status is that of a result, and the text has the lines of a legal history, which is the one that stands in the disk's
 -- content where it is told.
@@ -106,25 +73,45 @@ pub record TellsHistory (content : Option (List ℕ)) (status : Status) (text : 
 abbrev pub IsShowReply : Option (List ℕ) → Status → List ℕ → Type 0
 IsShowReply content status text = TellsHistory content status text ⊎ TellsFault content status text
 
+-- ---- commands that change the history
+
+-- the disk is not mounted, and nothing is changed; or the command acts on the history that is mounted
+abbrev pub IsChangeReply : DiskRun → Deed → (History → Change → Type 0) → Status → List ℕ → Type 0
+IsChangeReply disk Acts IsOwn status text = (TellsFault disk.content_before status text × IsUnchanged disk) ⊎ IsChanged disk Acts IsOwn status text
+
+abbrev pub IsOrderReply : DiskRun → Order → List ℕ → ℕ → Status → List ℕ → Type 0
+IsOrderReply disk order done now status text = IsChangeReply disk (Obeys order done now) (IsOrderedAt order now) status text
+
+-- at the one reading that the clock gave in the run
+abbrev pub AtReading : (ℕ → Type 0) → (ℕ → Type 0) → Type 0
+AtReading IsReading P = (now : ℕ) × IsReading now × P now
+
 -- ---- the run
 
--- The text that a run writes which ends with this status, for its command, its input and the content of its disk, where
+-- The text that a run writes which ends with this status, for its command, the clock's reading, its disk and its input, where
 -- each write succeeds.
-abbrev pub IsReply : Option Command → List ℕ → Option (List ℕ) → Status → List ℕ → Type 0
-IsReply None input content status text = (status ≡ Usage) × (text ≡ usage_line)
-IsReply (Some (Verify secret)) input content status text = IsVerifyReply secret input status text
-IsReply (Some Show) input content status text = IsShowReply content status text
+abbrev pub IsReply : Option Command → (ℕ → Type 0) → DiskRun → List ℕ → Status → List ℕ → Type 0
+IsReply None IsReading disk input status text = (status ≡ Usage) × (text ≡ usage_line)
+IsReply (Some (Verify secret)) IsReading disk input status text = IsVerifyReply secret input status text
+IsReply (Some Show) IsReading disk input status text = IsShowReply disk.content_before status text
+IsReply (Some Enlist) IsReading disk input status text = AtReading IsReading (λ now. IsChangeReply disk (Enlists input now) (IsFileListed input now) status text)
+IsReply (Some (Dismiss kind id)) IsReading disk input status text = AtReading IsReading (λ now. IsChangeReply disk (Dismisses kind id now) (IsDismissedAt kind id now) status text)
+IsReply (Some (Release tid)) IsReading disk input status text = AtReading IsReading (λ now. IsOrderReply disk (orders.Release tid) (line (codes "released")) now status text)
+IsReply (Some (Deny tid)) IsReading disk input status text = AtReading IsReading (λ now. IsOrderReply disk (orders.Deny tid) (line (codes "denied")) now status text)
 
 -- A text was written whole and the run ends as the text does; or a write failed, and some first octets were written.
 abbrev pub Wrote : Option (List ℕ) → Option (List ℕ) → Status → List ℕ → Status → Type 0
 Wrote old new reply text status = ((status ≡ reply) × Appends old new text) ⊎ ((status ≡ WriteFault) × AppendsPrefix old new text)
 
--- The run from its command, what the source had left and what the disk held where they tell it, and what the sink held
--- before and after, to its status: it wrote the reply.
-pub record Ran (command : Option Command) (left content old new : Option (List ℕ)) (status : Status) : Type 0 where
-  pub input : List ℕ
+-- A run that ends with this status wrote a reply of this form to the sink, which held this before and after.
+pub record Replied (IsForm : Status → List ℕ → Type 0) (old new : Option (List ℕ)) (status : Status) : Type 0 where
   pub reply : Status
   pub text : List ℕ
-  pub read : IfSome left (λ all. all ≡ input)
-  pub is_reply : IsReply command input content reply text
+  pub is_reply : IsForm reply text
   pub wrote : Wrote old new reply text status
+
+-- The same, where the form is by the input: what the source had left, where it tells it.
+pub record Ran (left : Option (List ℕ)) (IsForm : List ℕ → Status → List ℕ → Type 0) (old new : Option (List ℕ)) (status : Status) : Type 0 where
+  pub input : List ℕ
+  pub read : IfSome left (λ all. all ≡ input)
+  pub replied : Replied (IsForm input) old new status

@@ -1,8 +1,13 @@
 //! The certification authority's program. `cmpca verify SECRET` reads one CMP message from standard input and tells
-//! whether its PBMAC1 protection holds; `cmpca JOURNAL KEY show` tells how the history of a journal stands.
+//! whether its PBMAC1 protection holds; `cmpca JOURNAL KEY show` tells how the history of a journal stands, and `enlist`,
+//! `dismiss`, `release` and `deny` in the place of `show` change it by one change.
 #![tactic(auto)]
 
 mod check;
+mod dismiss;
+mod ending;
+mod enlist;
+mod order;
 mod reply;
 mod show;
 mod status;
@@ -13,11 +18,12 @@ mod verdict;
 mod words;
 
 use cmp_ports::{FileDisk, FileEntropy, FileSource, StdSink, StdSource, SysClock};
+use ending::no_memory;
 use status::Status;
 use std::alloc::{AllocError, Global};
 use std::process::ExitCode;
 use std::{env, io};
-use tool::{no_memory, run_tool};
+use tool::run_tool;
 
 /// The file that random octets are read from.
 const ENTROPY: &str = "/dev/urandom";

@@ -1,7 +1,8 @@
 //! What a command writes, and the words that several commands write.
 ghost use Rattle.std.specs.Prelude.{◌≡◌, ◌≢◌, ◌++◌, IfOk, codes};
 ghost use Rattle.std.specs.Fmt.{decimal};
-ghost use Rattle.cmpca.specs.Reply.{line, fault_status, fault_line};
+ghost use Rattle.cmpca.specs.Lines.{line};
+ghost use Rattle.cmpca.specs.Mounts.{fault_status, fault_line};
 
 use crate::status::Status;
 use cmp_ports::Octets;

@@ -4,6 +4,7 @@
 //! (`hashlib.pbkdf2_hmac('sha256', b'secret-1', salt, 1)` as the key, and `hmac.new(key, part, 'sha256')`, where part is
 //! the SEQUENCE of header and body).
 
+mod journal;
 mod show;
 
 use crate::status::Status;
@@ -140,6 +141,19 @@ fn words_of_no_form_are_usage(rt: HostRuntime) -> Result<(), Fail> {
         check_run(&rt, rt.alloc(), &texts, VERIFIED, Status::Usage, usage)?;
     }
     for texts in [["journal", "key", "init"], ["journal", "key", "Show"]] {
+        check_run(&rt, rt.alloc(), &texts, VERIFIED, Status::Usage, usage)?;
+    }
+    for texts in [
+        ["journal", "key", "release", "4"],
+        ["journal", "key", "deny", ""],
+        ["journal", "key", "dismiss", "mac"],
+    ] {
+        check_run(&rt, rt.alloc(), &texts, VERIFIED, Status::Usage, usage)?;
+    }
+    for texts in [
+        ["journal", "key", "dismiss", "mac", ""],
+        ["journal", "key", "dismiss", "lms", "00010203"],
+    ] {
         check_run(&rt, rt.alloc(), &texts, VERIFIED, Status::Usage, usage)?;
     }
     Ok(())
