@@ -1,5 +1,5 @@
 -- The reply of enlist, by what the file tells or why there is no list.
-use Rattle.std.proofs.Common.{◌≡◌, ◌⊎◌, inl, inr, ⊎_elim, ℕ, ◌×◌, List, Option, Some, None, Result, Ok, Err, refl, sym, ap, subst}
+use Rattle.std.proofs.Common.{◌≡◌, ◌⊎◌, inl, inr, ⊎_elim, ℕ, List, Option, Some, None, Result, Ok, Err, refl, sym, ap, subst}
 use Rattle.std.specs.Prelude.{◌≢◌, IfSome}
 use Rattle.deal_changes.specs.declared.change.Credential.{Credential}
 use Rattle.deal_changes.specs.declared.change.Change.{Change}
@@ -29,22 +29,22 @@ own_listed file list now h image tells left = ⊎_elim (λ was. inl was) (λ mor
 -- ---- none was read
 
 -- a file that the input may be, for which each such reply is right
-record IsRead (left : Option (List ℕ)) (u : Unlisted) : Type 0 where
-  file : List ℕ
-  whole : IfSome left (λ all. all ≡ file)
-  replies : (now : ℕ) (h : History) (status : Status) (text : List ℕ) (d : Option Change) → d ≡ None → IsUnlistedReply u status text → Enlists file now h status text h d
+pub record IsRead (left : Option (List ℕ)) (u : Unlisted) : Type 0 where
+  pub file : List ℕ
+  pub whole : IfSome left (λ all. all ≡ file)
+  pub replies : (now : ℕ) (h : History) (status : Status) (text : List ℕ) (d : Option Change) → d ≡ None → IsUnlistedReply u status text → Enlists file now h status text h d
 
 told_unlisted : (left : Option (List ℕ)) (fault : RegFault) → IsFile left (Err fault) → IsRead left (Bad fault)
 told_unlisted left fault is = record {
   file = is.file;
   whole = is.whole;
   replies = λ now h status text d clear r. ⊎_elim
-      (λ refused. inl (subst (λ (o : Result (List Credential) RegFault). ListsRead o (event_time h now) h status text h d) (sym is.tells) (refused.0, refused.1, refl, clear)))
-      (λ short. inr (short, refl, clear)) r;
+      (λ refused. inl (subst (λ (o : Result (List Credential) RegFault). ListsRead o (event_time h now) h status text h d) (sym is.tells) (refused.0, refused.1, (refl, clear))))
+      (λ short. inr (short, (refl, clear))) r;
 }
 
 short_reply : (file : List ℕ) (now : ℕ) (h : History) (status : Status) (text : List ℕ) (d : Option Change) → d ≡ None → IsCutShort status text → Enlists file now h status text h d
-short_reply file now h status text d clear short = inr (short, refl, clear)
+short_reply file now h status text d clear short = inr (short, (refl, clear))
 
 no_memory_short : (status : Status) (text : List ℕ) → status ≡ file_status files.NoMemory → text ≡ file_line files.NoMemory → IsCutShort status text
 no_memory_short status text ends says = subst (λ (s : Status). IsCutShort s text) (sym ends) says
