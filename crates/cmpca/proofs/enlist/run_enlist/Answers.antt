@@ -47,7 +47,7 @@ returns-in-Err-read_list-clause-ran g c =
       replied = acted now g.D.Disk.content g.D.Disk.images g.D.Disk.moment g.D.Disk.left_since g.met.D.Disk.honest c.at_most_one_answer.ensures
           _ s.disk s.disk _ (Enlists f.file c.args.now) (IsFileListed f.file c.args.now) h h s.doubt _ _ _
           (search rules) c.in-Ok.ensures.told c.in-Ok.ensures.moments
-          (started _ _ s.disk (RecoversWith h (IsFileListed f.file c.args.now h)) (λ image left. idle h s.doubt (IsFileListed f.file c.args.now h) image c.in-Ok.ensures.clear (c.stands_for_its_disk-2.ensures.images image (g.met.D.Disk.only_now s.disk.now image left))))
-          c.stands_for_its_disk-2.ensures.images c.stands_for_its_disk-2.ensures.lawful
+          (started _ _ s.disk (RecoversWith h (IsFileListed f.file c.args.now h)) (λ image left. idle h s.doubt (IsFileListed f.file c.args.now h) image c.in-Ok.ensures.clear (c.stands_for_its_disk-in-Err-read_list.ensures.images image (g.met.D.Disk.only_now s.disk.now image left))))
+          c.stands_for_its_disk-in-Err-read_list.ensures.images c.stands_for_its_disk-in-Err-read_list.ensures.lawful
           (reformed _ _ _ _ _ (λ reply text told. f.replies c.args.now h reply text s.doubt c.in-Ok.ensures.clear told) c.finish_unlisted.ensures.replied);
     }
