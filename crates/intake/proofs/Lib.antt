@@ -3,3 +3,13 @@ pub mod Found
 pub mod Letters
 pub mod Limits
 pub mod Wished
+pub mod MadeLemmas
+pub mod SenderLemmas
+pub mod TaskLemmas
+pub mod NameLemmas
+pub mod WholeLemmas
+pub mod FitLemmas
+pub mod PlainLemmas
+pub mod NestedLemmas
+pub mod SubjectLemmas
+pub mod WrapLemmas

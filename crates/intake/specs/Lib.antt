@@ -7,4 +7,6 @@ pub mod Letter
 pub mod Made
 pub mod Told
 pub mod Laws
+pub mod Fit
+pub mod Checking
 pub mod Intake

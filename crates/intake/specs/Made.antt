@@ -1,15 +1,16 @@
 -- How a request is made of what was read. No clause of a public call reads these words.
 use Rattle.std.specs.Prelude.{◌≡◌, ℕ, true, List, Option, Some, None}
 use Rattle.sha2.specs.Sha256.{sha256}
-use Rattle.pki_message.specs.Message.{MessageForm}
+use Rattle.pki_message.specs.Message.{MessageForm, IsMessage}
 use Rattle.deal_changes.specs.declared.change.Kind.{Kind}
 use Rattle.deal_model.specs.declared.asking.Ask.{Ask}
+use Rattle.deal_model.specs.declared.asking.Echo.{Echo}
 use Rattle.cmp_ports.specs.declared.fail_info.FailInfo.{FailInfo}
 use Rattle.deal_table.specs.Message.{Header, echo_of, echoed}
-use Rattle.deal_table.specs.Table.{Row, To, Decision, Refuses, unless, pass, tid_of}
+use Rattle.deal_table.specs.Table.{Row, To, Decision, Refuses, unless, pass, tid_of, header_rows}
 use Rattle.intake.specs.Headers.{header_of}
-use Rattle.intake.specs.Letter.{no_header}
-use Rattle.intake.specs.declared.request.Request.{Request}
+use Rattle.intake.specs.Bodies.{nested_inside}
+use Rattle.intake.specs.Letter.{no_header, IsReading}
 
 -- a row applies for this reason, or none does
 abbrev pub FirstApplies : List Row → Option FailInfo → Type 0
@@ -37,9 +38,17 @@ with_kid (Some kind) kid = Some (kind, kid)
 abbrev pub credential_of : Header → Option (Kind × List ℕ)
 credential_of head = with_kid head.kind head.kid
 
--- The request is about octets in which a message stands with this header; the message around it has that one.
-pub record IsMadeOf (bytes subject : List ℕ) (head around : Header) (outer : Option (Kind × List ℕ)) (r : Request) : Type 0 where
-  pub octets : r.bytes.now ≡ bytes
-  pub ask : IsAskFor subject head outer r.ask
-  pub echo : echoed r.echo ≡ echo_of head
-  pub outer_echo : echoed r.outer_echo ≡ echo_of around
+-- This is asked and repeated about octets in which a message stands with this header, where the message around it has that one.
+pub record IsMadeOf (subject : List ℕ) (head around : Header) (outer : Option (Kind × List ℕ)) (ask : Ask) (echo outer_echo : Echo) : Type 0 where
+  pub asked : IsAskFor subject head outer ask
+  pub echo_is : echoed echo ≡ echo_of head
+  pub outer_is : echoed outer_echo ≡ echo_of around
+
+-- The same about octets that are a message with a header in form: about the message itself, or about what stands inside it where
+-- it nests one.
+pub record IsMade (bytes : List ℕ) (ask : Ask) (echo outer_echo : Echo) : Type 0 where
+  pub some : ((m : MessageForm) → IsMessage bytes m → ⊥) → ⊥
+  pub header : (m : MessageForm) → IsMessage bytes m → pass (header_rows (heading_of (Some m))) ≡ true
+  pub plain : (m : MessageForm) → IsMessage bytes m → nested_inside m.body ≡ None → IsMadeOf bytes (heading_of (Some m)) (heading_of (Some m)) None ask echo outer_echo
+  pub nested : (m : MessageForm) (inside : List ℕ) (o : Option MessageForm) → IsMessage bytes m → nested_inside m.body ≡ Some inside → IsReading inside o
+      → IsMadeOf inside (heading_of o) (heading_of (Some m)) (credential_of (heading_of (Some m))) ask echo outer_echo

@@ -1,10 +1,13 @@
 //! What octets ask of the history.
-ghost use Rattle.std.specs.Prelude.{◌≡◌, Option, Some, None, option_map};
+ghost use Rattle.std.specs.Prelude.{◌≡◌, true, Option, Some, None, IfSome, option_map};
 ghost use Rattle.std.specs.Option.{option_copied};
-ghost use Rattle.pki_message.specs.Message.{MessageForm, message_of};
+ghost use Rattle.pki_message.specs.Message.{MessageForm, IsMessage, message_of};
 ghost use Rattle.pki_message.specs.Body.{body_of};
 ghost use Rattle.deal_table.specs.Message.{echo_of, echoed};
+ghost use Rattle.deal_table.specs.Table.{pass, header_rows};
+ghost use Rattle.pki_header.specs.Header.{head_of};
 ghost use Rattle.intake.specs.Bodies.{nested_inside};
+ghost use Rattle.intake.specs.Headers.{header_of};
 ghost use Rattle.intake.specs.Letter.{IsReading};
 ghost use Rattle.intake.specs.Made.{heading_of, credential_of, IsAskFor, IsMadeOf};
 ghost use Rattle.intake.specs.Intake.{IsIntake};
@@ -14,6 +17,7 @@ use crate::request::Request;
 use cmp_ports::{FailInfo, Short};
 use deal_changes::Kind;
 use deal_model::{Ask, Echo};
+use pki_header::Header;
 use pki_message::{Body, Message, read_message};
 use sha2::{Digest, Sha256};
 
@@ -35,8 +39,9 @@ const NOTHING: Echo<'static> = Echo {
 };
 
 /// The message that octets are.
-fn message_in(bytes: &[u8]) -> Option<Message<'_>>
-    ensures { (o : Option MessageForm) → IsReading bytes.now o → o ≡ option_map message_of result }
+pub(crate) fn message_in(bytes: &[u8]) -> Option<Message<'_>>
+    ensures one { (o : Option MessageForm) → IsReading bytes.now o → o ≡ option_map message_of result }
+    ensures found { IfSome result (λ m. IsMessage bytes.now (message_of m)) }
 {
     match read_message(bytes) {
         Ok(message) => Some(message),
@@ -78,7 +83,7 @@ fn echo_in<'a>(message: &Option<Message<'a>>) -> Echo<'a>
 }
 
 /// What stands inside a nested message.
-fn nested_in<'a>(body: &Body<'a>) -> Option<&'a [u8]>
+pub(crate) fn nested_in<'a>(body: &Body<'a>) -> Option<&'a [u8]>
     ensures { option_copied result ≡ nested_inside (body_of body.now) }
 {
     match body {
@@ -87,16 +92,27 @@ fn nested_in<'a>(body: &Body<'a>) -> Option<&'a [u8]>
     }
 }
 
+/// The credential of a message around another one, where it is of a kind that is served.
+fn credential(header: &Header) -> Option<(Kind, Short)>
+    ensures { result ≡ credential_of (header_of (head_of header.now) header.now.time) }
+{
+    match kind(&header.alg) {
+        None => None,
+        Some(kind) => Some((kind, kid(header))),
+    }
+}
+
 /// The request of a message that nests another one.
 fn nested_request<'a>(bytes: &'a [u8], around: &Message<'a>, inside: &'a [u8]) -> Request<'a>
+    requires one { (o : Option MessageForm) → IsReading bytes.now o → o ≡ Some (message_of around.now) }
+    requires found { IsMessage bytes.now (message_of around.now) }
+    requires header { pass (header_rows (heading_of (Some (message_of around.now)))) ≡ true }
+    requires nested { nested_inside (body_of around.now.body) ≡ Some inside.now }
     ensures octets { result.bytes.now ≡ bytes.now }
-    ensures made { (o : Option MessageForm) → IsReading inside.now o → IsMadeOf bytes.now inside.now (heading_of o) (heading_of (Some (message_of around.now))) (credential_of (heading_of (Some (message_of around.now)))) result }
+    ensures made { (o : Option MessageForm) → IsReading inside.now o → IsMadeOf inside.now (heading_of o) (heading_of (Some (message_of around.now))) (credential_of (heading_of (Some (message_of around.now)))) result.ask result.echo result.outer_echo }
 {
     let inner = message_in(inside);
-    let outer = match kind(&around.header.alg) {
-        None => None,
-        Some(kind) => Some((kind, kid(&around.header))),
-    };
+    let outer = credential(&around.header);
     let ask = ask_about(inside, &inner, outer);
     Request {
         bytes,
@@ -108,7 +124,12 @@ fn nested_request<'a>(bytes: &'a [u8], around: &Message<'a>, inside: &'a [u8]) -
 
 /// The request of a message that nests no other one.
 fn plain_request<'a>(bytes: &'a [u8], message: &Message<'a>) -> Request<'a>
-    ensures { IsMadeOf bytes.now bytes.now (heading_of (Some (message_of message.now))) (heading_of (Some (message_of message.now))) None result }
+    requires one { (o : Option MessageForm) → IsReading bytes.now o → o ≡ Some (message_of message.now) }
+    requires found { IsMessage bytes.now (message_of message.now) }
+    requires header { pass (header_rows (heading_of (Some (message_of message.now)))) ≡ true }
+    requires alone { nested_inside (body_of message.now.body) ≡ None }
+    ensures octets { result.bytes.now ≡ bytes.now }
+    ensures made { IsMadeOf bytes.now (heading_of (Some (message_of message.now))) (heading_of (Some (message_of message.now))) None result.ask result.echo result.outer_echo }
 {
     let ask = ask_about(bytes, &Some(*message), None);
     Request {

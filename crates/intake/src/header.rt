@@ -77,6 +77,13 @@ fn nonce(header: &Header) -> Option<Short>
     sized(header.sender_nonce, 16)
 }
 
+/// The recipNonce, where it has at most 64 octets.
+pub(crate) fn recipient_nonce(header: &Header) -> Option<Short>
+    ensures { result ≡ sized 0 64 (option_copied header.now.recip_nonce) }
+{
+    sized(header.recip_nonce, 0)
+}
+
 /// Why a header is refused: its version isn't 2 or 3, or its transactionID or its senderNonce is absent or of a wrong length.
 pub(crate) fn fault(header: &Header) -> Option<FailInfo>
     ensures { FirstApplies (header_rows (header_of (head_of header.now) header.now.time)) result }

@@ -1,23 +1,32 @@
-//! What octets that a sender sent are, as the table of decisions asks, and what they ask of the history.
+//! What octets that a sender sent are, as the table of decisions asks, what they ask of the history, and their check by what a look
+//! at the history tells.
 #![tactic(auto)]
 
 mod about;
 mod asking;
 mod bodies;
+mod checks;
 mod extensions;
 mod header;
 mod info;
+mod job;
 mod keys;
 mod laws;
 mod others;
 mod request;
 mod requests;
+mod rows;
+mod sender;
+mod subject;
+mod unfit;
 mod values;
 mod wish;
 
 pub use asking::{Intake, ask_of};
+pub use checks::check;
 pub use laws::letters_fit;
 pub use request::Request;
+pub use unfit::Unfit;
 
 #[cfg(test)]
 mod tests;

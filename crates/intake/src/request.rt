@@ -1,5 +1,6 @@
 //! Messages that may ask something of the history.
 ghost use Rattle.std.specs.Prelude.{◌≡◌, if◌then◌else◌};
+ghost use Rattle.intake.specs.Made.{IsMade};
 
 use deal_model::{Ask, Echo};
 
@@ -10,6 +11,7 @@ pub struct Request<'a> {
     pub(crate) ask: Ask,
     pub(crate) echo: Echo<'a>,
     pub(crate) outer_echo: Echo<'a>,
+    ghost made: { IsMade bytes.now ask echo outer_echo },
 }
 
 impl<'a> Request<'a> {
