@@ -95,6 +95,7 @@ impl<'a, D: Disk + Drop, R: Wait> Clerk for SharedClerk<'a, D, R> {
     fn look(&mut self, ask: &Ask, now: u64) -> Look {
         let mut desk = self.stile.enter(self.rt, &mut self.seat);
         let look = desk.look(ask, now);
+        desk.stands_for_its_disk();
         self.stile.leave(&mut self.seat, desk);
         look
     }
@@ -102,6 +103,7 @@ impl<'a, D: Disk + Drop, R: Wait> Clerk for SharedClerk<'a, D, R> {
     fn granted(&mut self, tid: &Short) -> Result<Option<Receipt>, AllocError> {
         let mut desk = self.stile.enter(self.rt, &mut self.seat);
         let receipt = desk.granted(tid);
+        desk.stands_for_its_disk();
         self.stile.leave(&mut self.seat, desk);
         receipt
     }
@@ -110,6 +112,7 @@ impl<'a, D: Disk + Drop, R: Wait> Clerk for SharedClerk<'a, D, R> {
         let mut desk = self.stile.enter(self.rt, &mut self.seat);
         let verdict = desk.decide(checked, now, words);
         keep_mark(&mut self.marks, &mut desk);
+        desk.stands_for_its_disk();
         self.stile.leave(&mut self.seat, desk);
         verdict
     }
@@ -118,6 +121,7 @@ impl<'a, D: Disk + Drop, R: Wait> Clerk for SharedClerk<'a, D, R> {
         let mut desk = self.stile.enter(self.rt, &mut self.seat);
         let end = desk.lapse(now);
         keep_mark(&mut self.marks, &mut desk);
+        desk.stands_for_its_disk();
         self.stile.leave(&mut self.seat, desk);
         end
     }
@@ -126,6 +130,7 @@ impl<'a, D: Disk + Drop, R: Wait> Clerk for SharedClerk<'a, D, R> {
         let mut desk = self.stile.enter(self.rt, &mut self.seat);
         let end = desk.order(order, now);
         keep_mark(&mut self.marks, &mut desk);
+        desk.stands_for_its_disk();
         self.stile.leave(&mut self.seat, desk);
         end
     }

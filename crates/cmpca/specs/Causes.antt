@@ -1,4 +1,4 @@
--- What each verdict means, by the spelling of a message (RFC 9810, 5.1), PBMAC1 (RFC 8018, 7.1; RFC 9481, 6.1.1) and its
+-- What each verdict means, by the spelling of a message (RFC 9810, 5.1), PBMAC1 (RFC 8018, 7.1; RFC 9481, 6.1.2) and its
 -- MAC over the protected part (RFC 9810, 5.1.3). No reader is named.
 use Rattle.std.specs.Prelude.{◌≡◌, ℕ, ◌⊎◌, List, Some, None}
 use Rattle.asn_types.specs.Algorithm.{Algorithm}

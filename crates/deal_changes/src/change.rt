@@ -8,7 +8,7 @@ use std::marker::Model;
 /// How a listed credential protects a message.
 #[derive(Clone, Copy, Debug, PartialEq, Eq)]
 pub enum Kind {
-    /// By a shared secret (PBMAC1, RFC 9481, 6.1.1).
+    /// By a shared secret (PBMAC1, RFC 9481, 6.1.2).
     Mac,
     /// By a hash-based signature (HSS/LMS, RFC 8554).
     Lms,

@@ -4,6 +4,7 @@ ghost use Rattle.atomic_table.specs.Seated.{TableId};
 ghost use Rattle.cmp_ports.specs.Disk.{LeavesOnly, Every};
 ghost use Rattle.cmp_ports.specs.Faults.{Rose};
 ghost use Rattle.deal_changes.specs.declared.change.Change.{Change};
+ghost use Rattle.deal_model.specs.Rules.{Legal};
 ghost use Rattle.deal_table.specs.History.{Begins, IsFounded, look_of, grant_receipt};
 ghost use Rattle.deal_table.specs.Message.{Letter};
 ghost use Rattle.deal_table.specs.Carry.{FitsChecked, Carries, untold, HashIsTold};
@@ -61,6 +62,7 @@ pub trait Clerk {
     fn look(&mut self, ask: &Ask, now: u64) -> Look
         requires { now ≤ 250000000000 }
         ensures grown { Begins (seen self.old) (seen self.new) }
+        ensures lawful { ∥ Legal (seen self.new) ∥₁ }
         ensures answer { result ≡ look_of (seen self.new) ask.now now }
         ensures founded { IsFounded (seen self.new) }
         ensures time { result.time ≤ 250000000000 }
@@ -75,6 +77,7 @@ pub trait Clerk {
     /// What the reply to a transaction's Grant needs; none exactly where there is no Grant.
     fn granted(&mut self, tid: &Short) -> Result<Option<Receipt>, AllocError>
         ensures grown { Begins (seen self.old) (seen self.new) }
+        ensures lawful { ∥ Legal (seen self.new) ∥₁ }
         ensures answer { IfOk result (λ r. r ≡ grant_receipt (seen self.new) tid.now) }
         ensures mine { mine self.new ≡ mine self.old }
         ensures faults { faults self.new ≡ faults self.old }
@@ -89,6 +92,7 @@ pub trait Clerk {
         requires clock { now ≤ 250000000000 }
         requires fits { FitsChecked checked.now }
         ensures grown { Begins (seen self.old) (seen self.new) }
+        ensures lawful { ∥ Legal (seen self.new) ∥₁ }
         // Each message that the Checked carries, by a history that its maker has seen, is decided so.
         ensures verdict { (l : Letter) (looked : List Change) → Begins looked (seen self.old) → Carries l (untold checked.now) looked → HashIsTold l checked.now (seen self.old) → Decides l checked.now (seen self.old) (seen self.new) now words.now result }
         ensures time { IsInTime result }
@@ -107,6 +111,7 @@ pub trait Clerk {
     fn lapse(&mut self, now: u64) -> Lapsed
         requires { now ≤ 250000000000 }
         ensures grown { Begins (seen self.old) (seen self.new) }
+        ensures lawful { ∥ Legal (seen self.new) ∥₁ }
         ensures ends { IsLapsedSince (seen self.old) (seen self.new) now result }
         ensures mine { mine self.new ≡ mine self.old ++ lapsed_place result }
         ensures fault { result ≡ Lapsed.DiskFault → Rose (faults self.old) (faults self.new) }
@@ -121,6 +126,7 @@ pub trait Clerk {
     fn order(&mut self, order: &Order, now: u64) -> Ordered
         requires { now ≤ 250000000000 }
         ensures grown { Begins (seen self.old) (seen self.new) }
+        ensures lawful { ∥ Legal (seen self.new) ∥₁ }
         ensures ends { IsOrderedSince (seen self.old) (seen self.new) order.now now result }
         ensures mine { mine self.new ≡ mine self.old ++ ordered_place result }
         ensures fault { result ≡ Ordered.DiskFault → Rose (faults self.old) (faults self.new) }

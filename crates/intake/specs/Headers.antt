@@ -12,7 +12,7 @@ use Rattle.deal_changes.specs.declared.change.Kind.TheVariants.{Mac, Lms}
 use Rattle.deal_table.specs.Message.{Header}
 use Rattle.intake.specs.Values.{sized, version_of, is_plain_hss}
 
--- How a protectionAlg protects: PBMAC1 within the limits of its parameters by a secret (RFC 9481, 6.1.1), HSS/LMS without
+-- How a protectionAlg protects: PBMAC1 within the limits of its parameters by a secret (RFC 9481, 6.1.2), HSS/LMS without
 -- parameters by a signature (RFC 9708, 4). No other one is served.
 abbrev pub kind_of : Option Algorithm → Option Kind
 kind_of None = None

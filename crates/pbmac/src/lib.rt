@@ -1,4 +1,4 @@
-//! PBMAC1 with PBKDF2 and HMAC-SHA-256 (RFC 8018, 7.1; RFC 9481, 6.1.1): its parameters, and the check and the making of a MAC.
+//! PBMAC1 with PBKDF2 and HMAC-SHA-256 (RFC 8018, 7.1; RFC 9481, 6.1.2): its parameters, and the check and the making of a MAC.
 #![tactic(auto)]
 
 mod algorithm_id;

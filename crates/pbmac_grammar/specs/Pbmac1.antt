@@ -1,4 +1,4 @@
--- PBMAC1 with PBKDF2 and HMAC-SHA-256, as an AlgorithmIdentifier (RFC 8018, A.5, A.2 and B.1.2; RFC 9481, 6.1.1). Other key
+-- PBMAC1 with PBKDF2 and HMAC-SHA-256, as an AlgorithmIdentifier (RFC 8018, A.5, A.2 and B.1.2; RFC 9481, 6.1.2). Other key
 -- derivations, MACs and pseudorandom functions are left out, and so is a prf that is not written, which means HMAC-SHA-1.
 use Rattle.std.specs.Prelude.{◌≡◌, ℕ, ◌<◌, ◌≤◌, ◌++◌, ◌⊎◌, ◌↔◌, IsTrue, slice_index, List, [], ◌∷◌, length, Some, None}
 use Rattle.der_base.specs.Element.{IsElement}

@@ -12,7 +12,7 @@ use Rattle.protect.specs.Algorithms.{hss_lms}
 use Rattle.protect.specs.declared.key.Key.{Key}
 use Rattle.protect.specs.declared.key.Key.TheVariants as variant
 
--- PBMAC1 with parameters that are accepted (RFC 9481, 6.1.1)
+-- PBMAC1 with parameters that are accepted (RFC 9481, 6.1.2)
 pub record IsMacAlgorithm (a : Algorithm) : Type 0 where
   pub params : MacParams
   pub form : IsPbmac1 a params.salt params.rounds

@@ -71,15 +71,15 @@ name_short text high =
 
 -- ---- the keys
 
-blank_levels : (tree ots : ℕ) → levels_of (blank_key tree ots) ≡ 1
+pub blank_levels : (tree ots : ℕ) → levels_of (blank_key tree ots) ≡ 1
 unfolding levels_of u32
 blank_levels tree ots = refl
 
-blank_tree : (tree ots : ℕ) → tree < 2 ^ 32 → tree_of (blank_key tree ots) ≡ tree
+pub blank_tree : (tree ots : ℕ) → tree < 2 ^ 32 → tree_of (blank_key tree ots) ≡ tree
 unfolding tree_of u32
 blank_tree tree ots h = from_be_bytes-to_be_bytes_4 tree h
 
-blank_ots : (tree ots : ℕ) → ots < 2 ^ 32 → ots_of (blank_key tree ots) ≡ ots
+pub blank_ots : (tree ots : ℕ) → ots < 2 ^ 32 → ots_of (blank_key tree ots) ≡ ots
 unfolding ots_of u32
 blank_ots tree ots h = from_be_bytes-to_be_bytes_4 ots h
 
