@@ -1,6 +1,8 @@
 -- What a turn did to the history that a seat has seen, and to its marks.
 use Rattle.std.proofs.Common.{◌≡◌, ℕ, ◌≤◌, List, ◌++◌, Option, Some, None, sym, ◌∙◌, ap, subst, append_assoc}
-use Rattle.std.specs.Prelude.{MatchOption}
+use Rattle.std.proofs.Math.Logic.{∥∥₁_map}
+use Rattle.std.specs.Prelude.{MatchOption, IfSome}
+use Rattle.deal_model.specs.Rules.{Allowed, Legal}
 use Rattle.deal_model.specs.Views.{History}
 use Rattle.deal_model.specs.declared.asking.Checked.{Checked}
 use Rattle.deal_table.specs.History.{Begins}
@@ -11,6 +13,10 @@ use Rattle.desk.specs.Verdicts.{IsDone, Decides}
 
 pub begins_on : (xs ys zs : History) → Begins xs ys → Begins ys zs → Begins xs zs
 begins_on xs ys zs first second = (first.0 ++ second.0, second.1 ∙ ap (λ (l : History). l ++ second.0) first.1 ∙ append_assoc xs first.0 second.0)
+
+-- what a seat has seen is legal where it is a desk's history
+pub seen_lawful : {P : Type 0} (seen h : History) → seen ≡ h → ∥ Legal h × P ∥₁ → ∥ Legal seen × IfSome None (Allowed seen) ∥₁
+seen_lawful seen h is t = ∥∥₁_map t (λ l. (subst Legal (sym is) l.0, tt))
 
 -- a mark that was handed in raised the count
 pub marked : {M : Type 0} (mark : Option M) (Failed R : Type 0) (P : M → Type 0) → MatchOption mark (Failed → ⊥) P → MatchOption mark (Unit {0}) (λ m. R) → Failed → R

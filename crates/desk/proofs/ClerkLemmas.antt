@@ -20,7 +20,7 @@ use Rattle.desk.specs.Images.{DoubtOr}
 use Rattle.desk.specs.Due.{IsLapse, IsDue}
 use Rattle.desk.specs.Calls.{IsSame, IsAdded, IsLapsed, IsOrder, IsOrdered}
 use Rattle.desk.specs.Verdicts.{LeftMakes, IsLeft}
-use Rattle.desk.specs.Clerks.{places_since, decided_place, lapsed_place, ordered_place}
+use Rattle.desk.specs.Clerks.{places_since, decided_place, lapsed_place, ordered_place, IsDecidedAlone}
 
 -- ---- places
 
@@ -81,6 +81,14 @@ left_gains opening k now w h d (Refused fail place time is_guarded to_outer) g e
 left_gains opening k now w h d (Stale place) g e le f = gains_nothing opening h g f.1.0
 left_gains opening k now w h d DiskFault g e le f = gains_nothing opening h g f.0
 left_gains opening k now w h d NoMemory g e le f = gains_nothing opening h g f.0
+
+pub left_alone : (k : Checked) (now : ℕ) (w : List ℕ) (h : History) (d : Option Change) (v : Verdict) (g : History) (e : Option Change) → IsLeft k now w h d v g e → IsDecidedAlone h g v
+left_alone k now w h d (Done r) g e f = f.1.grown
+left_alone k now w h d (Again r place time) g e f = f.3.0
+left_alone k now w h d (Refused fail place time is_guarded to_outer) g e f = f.2.0
+left_alone k now w h d (Stale place) g e f = f.1.0
+left_alone k now w h d DiskFault g e f = f.0
+left_alone k now w h d NoMemory g e f = f.0
 
 pub left_doubt : (k : Checked) (now : ℕ) (w : List ℕ) (h : History) (d : Option Change) (v : Verdict) (g : History) (e : Option Change) → IsLeft k now w h d v g e → IfSome e (DoubtOr d (LeftMakes h k now w))
 left_doubt k now w h d (Done r) g e f = no_doubt d e _ f.2

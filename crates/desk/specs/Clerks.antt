@@ -1,5 +1,5 @@
 -- What a clerk's calls do to the history as it has seen it, and which places are its own.
-use Rattle.std.specs.Prelude.{ℕ, ◌+◌, ◌-◌, List, [], ◌∷◌, length, Option}
+use Rattle.std.specs.Prelude.{◌≡◌, ℕ, ◌+◌, ◌-◌, List, [], ◌∷◌, ◌++◌, length, Option}
 use Rattle.std.specs.List.{range_with_len}
 use Rattle.cmp_ports.specs.declared.order.Order.{Order}
 use Rattle.deal_changes.specs.declared.change.Change.{Change}
@@ -29,6 +29,11 @@ lapsed_place _ = []
 abbrev pub ordered_place : Ordered → List ℕ
 ordered_place (ordered.Done place) = place ∷ []
 ordered_place _ = []
+
+-- what a decision does to a history that nobody else changes: it gains the change that was made, and else stays
+abbrev pub IsDecidedAlone : History → History → Verdict → Type 0
+IsDecidedAlone old new (verdict.Done r) = new ≡ old ++ r.change ∷ []
+IsDecidedAlone old new _ = new ≡ old
 
 -- a desk's lapse over a history that begins with what the clerk had seen
 pub record IsLapsedSince (old new : History) (now : ℕ) (end : Lapsed) : Type 0 where

@@ -1,10 +1,10 @@
 //! Whoever keeps a history for those that answer messages.
-ghost use Rattle.std.specs.Prelude.{◌≡◌, ◌≤◌, ℕ, List, ◌++◌, Option, IfSome, IfOk};
+ghost use Rattle.std.specs.Prelude.{◌≡◌, ◌≤◌, ℕ, List, ◌++◌, Option, None, IfSome, IfOk};
 ghost use Rattle.atomic_table.specs.Seated.{TableId};
 ghost use Rattle.cmp_ports.specs.Disk.{LeavesOnly, Every};
 ghost use Rattle.cmp_ports.specs.Faults.{Rose};
 ghost use Rattle.deal_changes.specs.declared.change.Change.{Change};
-ghost use Rattle.deal_model.specs.Rules.{Legal};
+ghost use Rattle.deal_model.specs.Rules.{Allowed, Legal};
 ghost use Rattle.deal_table.specs.History.{Begins, IsFounded, look_of, grant_receipt};
 ghost use Rattle.deal_table.specs.Message.{Letter};
 ghost use Rattle.deal_table.specs.Carry.{FitsChecked, Carries, untold, HashIsTold};
@@ -12,7 +12,7 @@ ghost use Rattle.desk.specs.Due.{event_time, IsLapse};
 ghost use Rattle.desk.specs.Calls.{IsOrder};
 ghost use Rattle.desk.specs.Images.{RecoversWith, IsDoubt, DoubtOr};
 ghost use Rattle.desk.specs.Verdicts.{Decides, IsInTime, LeftMakes};
-ghost use Rattle.desk.specs.Clerks.{decided_place, lapsed_place, ordered_place, IsLapsedSince, IsOrderedSince};
+ghost use Rattle.desk.specs.Clerks.{decided_place, lapsed_place, ordered_place, IsDecidedAlone, IsLapsedSince, IsOrderedSince};
 
 use crate::answers::{Lapsed, Ordered};
 use crate::receipt::Receipt;
@@ -44,7 +44,8 @@ pub trait Clerk {
     /// The loan by which the disk is held, where the clerk tells it.
     ghost disk_loan: { Self → ℕ };
 
-    /// The turnstile at which the clerk has its seat, where it has one, and for how many seats that counts.
+    /// The turnstile at which the clerk has its seat, where it has one, and for how many seats that counts. A clerk without a seat has
+    /// its history to itself.
     ghost table: { Self → Option TableId };
 
     ghost share: { Self → ℕ };
@@ -62,7 +63,7 @@ pub trait Clerk {
     fn look(&mut self, ask: &Ask, now: u64) -> Look
         requires { now ≤ 250000000000 }
         ensures grown { Begins (seen self.old) (seen self.new) }
-        ensures lawful { ∥ Legal (seen self.new) ∥₁ }
+        ensures lawful { ∥ Legal (seen self.new) × IfSome (doubt self.new) (Allowed (seen self.new)) ∥₁ }
         ensures answer { result ≡ look_of (seen self.new) ask.now now }
         ensures founded { IsFounded (seen self.new) }
         ensures time { result.time ≤ 250000000000 }
@@ -71,19 +72,21 @@ pub trait Clerk {
         ensures loan { loan self.new ≡ loan self.old }
         ensures disk_loan { disk_loan self.new ≡ disk_loan self.old }
         ensures seat { (table self.new ≡ table self.old) × (share self.new ≡ share self.old) }
+        ensures alone { table self.old ≡ None → seen self.new ≡ seen self.old }
         ensures doubt { doubt self.new ≡ doubt self.old }
         ensures moments { LeavesOnly moment left_since self.old self.new (RecoversWith (seen self.old) (IsDoubt (doubt self.old))) };
 
     /// What the reply to a transaction's Grant needs; none exactly where there is no Grant.
     fn granted(&mut self, tid: &Short) -> Result<Option<Receipt>, AllocError>
         ensures grown { Begins (seen self.old) (seen self.new) }
-        ensures lawful { ∥ Legal (seen self.new) ∥₁ }
+        ensures lawful { ∥ Legal (seen self.new) × IfSome (doubt self.new) (Allowed (seen self.new)) ∥₁ }
         ensures answer { IfOk result (λ r. r ≡ grant_receipt (seen self.new) tid.now) }
         ensures mine { mine self.new ≡ mine self.old }
         ensures faults { faults self.new ≡ faults self.old }
         ensures loan { loan self.new ≡ loan self.old }
         ensures disk_loan { disk_loan self.new ≡ disk_loan self.old }
         ensures seat { (table self.new ≡ table self.old) × (share self.new ≡ share self.old) }
+        ensures alone { table self.old ≡ None → seen self.new ≡ seen self.old }
         ensures doubt { doubt self.new ≡ doubt self.old }
         ensures moments { LeavesOnly moment left_since self.old self.new (RecoversWith (seen self.old) (IsDoubt (doubt self.old))) };
 
@@ -92,7 +95,7 @@ pub trait Clerk {
         requires clock { now ≤ 250000000000 }
         requires fits { FitsChecked checked.now }
         ensures grown { Begins (seen self.old) (seen self.new) }
-        ensures lawful { ∥ Legal (seen self.new) ∥₁ }
+        ensures lawful { ∥ Legal (seen self.new) × IfSome (doubt self.new) (Allowed (seen self.new)) ∥₁ }
         // Each message that the Checked carries, by a history that its maker has seen, is decided so.
         ensures verdict { (l : Letter) (looked : List Change) → Begins looked (seen self.old) → Carries l (untold checked.now) looked → HashIsTold l checked.now (seen self.old) → Decides l checked.now (seen self.old) (seen self.new) now words.now result }
         ensures time { IsInTime result }
@@ -102,6 +105,7 @@ pub trait Clerk {
         ensures loan { loan self.new ≡ loan self.old }
         ensures disk_loan { disk_loan self.new ≡ disk_loan self.old }
         ensures seat { (table self.new ≡ table self.old) × (share self.new ≡ share self.old) }
+        ensures alone { table self.old ≡ None → IsDecidedAlone (seen self.old) (seen self.new) result }
         // A stop at any moment of the call leaves the history, with the change in doubt behind it, with the message's, or alone;
         // and only one of these may be in doubt afterwards.
         ensures doubt { IfSome (doubt self.new) (DoubtOr (doubt self.old) (LeftMakes (seen self.old) checked.now now words.now)) }
@@ -111,7 +115,7 @@ pub trait Clerk {
     fn lapse(&mut self, now: u64) -> Lapsed
         requires { now ≤ 250000000000 }
         ensures grown { Begins (seen self.old) (seen self.new) }
-        ensures lawful { ∥ Legal (seen self.new) ∥₁ }
+        ensures lawful { ∥ Legal (seen self.new) × IfSome (doubt self.new) (Allowed (seen self.new)) ∥₁ }
         ensures ends { IsLapsedSince (seen self.old) (seen self.new) now result }
         ensures mine { mine self.new ≡ mine self.old ++ lapsed_place result }
         ensures fault { result ≡ Lapsed.DiskFault → Rose (faults self.old) (faults self.new) }
@@ -126,7 +130,7 @@ pub trait Clerk {
     fn order(&mut self, order: &Order, now: u64) -> Ordered
         requires { now ≤ 250000000000 }
         ensures grown { Begins (seen self.old) (seen self.new) }
-        ensures lawful { ∥ Legal (seen self.new) ∥₁ }
+        ensures lawful { ∥ Legal (seen self.new) × IfSome (doubt self.new) (Allowed (seen self.new)) ∥₁ }
         ensures ends { IsOrderedSince (seen self.old) (seen self.new) order.now now result }
         ensures mine { mine self.new ≡ mine self.old ++ ordered_place result }
         ensures fault { result ≡ Ordered.DiskFault → Rose (faults self.old) (faults self.new) }

@@ -3,8 +3,11 @@ use Rattle.deal_model.specs.Views.{History}
 use Rattle.deal_table.specs.History.{Begins}
 use Rattle.desk.specs.Due.{event_time}
 use Rattle.desk.proofs.ClerkLemmas.{lapsed_gains}
-use Rattle.clerk.proofs.TurnLemmas.{begins_on}
+use Rattle.clerk.proofs.TurnLemmas.{begins_on, seen_lawful}
 use Rattle.clerk.proofs.shared.SharedClerkClerk.lapse.Goals as goal
+
+pub returns-clause-lawful : goal.returns-clause-lawful
+returns-clause-lawful g c = seen_lawful c.leave.new.seat.me.0.seen c.keep_mark.new.desk.history.items (ap (λ m. m.0.seen) c.leave.ensures.left) c.stands_for_its_disk.ensures.lawful
 
 pub returns-clause-grown : goal.returns-clause-grown
 returns-clause-grown g c =

@@ -1,5 +1,5 @@
 use Rattle.desk.proofs.VerdictLemmas.{begins_self}
-use Rattle.desk.proofs.ClerkLemmas.{left_gains}
+use Rattle.desk.proofs.ClerkLemmas.{left_gains, left_alone}
 use Rattle.desk.proofs.sole_clerk.SoleClerkClerk.decide.Goals as goal
 
 pub returns-clause-grown : goal.returns-clause-grown
@@ -14,3 +14,8 @@ pub returns-clause-mine : goal.returns-clause-mine
 returns-clause-mine g c =
     let s = c.args.self.now in
     (left_gains s.opening c.args.checked.now c.args.now c.args.words.now s.desk.now.history.items s.desk.now.doubt c.decide.result c.decide.new.self.history.items c.decide.new.self.doubt s.since c.decide.ensures.ends).mine
+
+pub returns-clause-alone : goal.returns-clause-alone
+returns-clause-alone g c = λ _.
+    let s = c.args.self.now in
+    left_alone c.args.checked.now c.args.now c.args.words.now s.desk.now.history.items s.desk.now.doubt c.decide.result c.decide.new.self.history.items c.decide.new.self.doubt c.decide.ensures.ends
