@@ -6,3 +6,4 @@ pub mod Messages
 pub mod Guards
 pub mod Refusals
 pub mod Replies
+pub mod InForce

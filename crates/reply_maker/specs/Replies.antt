@@ -13,9 +13,11 @@ use Rattle.deal_changes.specs.declared.change.Stamp.{Stamp}
 use Rattle.deal_changes.specs.declared.change.Who.{Who}
 use Rattle.deal_changes.specs.declared.change.Who.TheVariants.{Listed, Cert}
 use Rattle.deal_changes.specs.declared.change.Wish.{Wish}
+use Rattle.deal_changes.specs.declared.change.Settings.{Settings}
 use Rattle.deal_changes.specs.Times.{stamp_of}
 use Rattle.deal_model.specs.declared.asking.Brief.{Brief}
-use Rattle.deal_table.specs.History.{Receipted}
+use Rattle.deal_table.specs.History.{Receipted, brief_of}
+use Rattle.hss_sig.specs.OneLevel.{hss_signature}
 use Rattle.pbmac.specs.Mac.{mac_of}
 use Rattle.pki_header.specs.declared.plan.HeaderPlan.{HeaderPlan}
 use Rattle.pki_parts.specs.CertRep.{rep_octets}
@@ -26,6 +28,9 @@ use Rattle.protect.specs.Algorithms.{hss_lms, mac_algorithm}
 use Rattle.cert_maker.specs.Certificates.{cert_of}
 use Rattle.cert_maker.specs.Moments.{generalized_of}
 use Rattle.cert_maker.specs.Plans.{ca_name, reply_name}
+use Rattle.sha2.specs.Sha256.{sha256}
+use Rattle.reply_maker.specs.Certificates as own
+use Rattle.reply_maker.specs.Keys.{issue_secret, reply_secret}
 use Rattle.reply_maker.specs.Messages.{planned_message, directory_name, recipient_for, nonce_in, salt_in}
 
 -- What an authority replies with: its settings, its two certificates, and how the leaves of its two keys sign.
@@ -35,6 +40,20 @@ pub record Replier : Type 0 where
   pub reply : List ℕ
   pub issues : ℕ → List ℕ → List ℕ
   pub signs : ℕ → List ℕ → List ℕ
+
+-- the one whose keys are those of a key file, under these settings
+unfoldable pub replier_of : List ℕ → Settings → Replier
+replier_of file s = record {
+  keys = brief_of s;
+  root = own.root_of (issue_secret file s) s;
+  reply = own.reply_of (issue_secret file s) s;
+  issues = hss_signature (issue_secret file s);
+  signs = hss_signature (reply_secret file s);
+}
+
+-- the hash that the certConf of a granted certificate is to have (5.3.18)
+unfoldable pub certificate_hash : Replier → Receipted → List ℕ
+certificate_hash k r = sha256 (cert_of k.issues k.keys r.change)
 
 -- ---- bodies
 

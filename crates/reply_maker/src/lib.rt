@@ -9,6 +9,7 @@ mod key_file;
 mod keys;
 mod message;
 mod refusals;
+mod sealing;
 #[cfg(test)]
 mod tests;
 mod trees;
@@ -16,3 +17,4 @@ mod trees;
 pub use key_file::KeyFault;
 pub use keys::Keys;
 pub use refusals::{Guard, refuse};
+pub use sealing::{grant_hash, seal};
