@@ -163,8 +163,8 @@ fn refusal(
 }
 
 /// Writes a refusal: an error message (RFC 9810, 5.3.21) that answers a message with its reason, at a second. It is protected by
-/// the MAC of the guard's secret, where there is a guard; the words are drawn for it, and only a failure of the service itself has
-/// none, which nothing protects. `AllocError` where memory runs out.
+/// the MAC of the guard's secret, where there is a guard; the words are drawn for it, and only a failure of the service itself may
+/// have none, which nothing protects then. `AllocError` where memory runs out.
 pub fn refuse(
     alloc: Global,
     keys: &Keys,
@@ -177,7 +177,7 @@ pub fn refuse(
     requires time { time ≤ 250_000_000_000 }
     requires sender { length echo.now.sender.now ≤ 131_072 }
     requires drawn { fail ≢ FailInfo.SystemFailure → IsSome words }
-    requires bare { fail ≡ FailInfo.SystemFailure → guard ≡ None }
+    requires guarded { IsSome guard → IsSome words }
     ensures { IfOk result (λ octets. octets ≡ refusal_of (brief_of keys.now.settings) (echoed echo.now) fail (option_map secret_in (option_copied guard.entry)) time (option_copied words.entry)) }
 {
     refusal(
