@@ -32,7 +32,8 @@ fn certificate_of<L: LeafSigner>(
 ) -> Result<Octets, AllocError>
     requires below { leaf < L.count signer.now }
     requires short { length tbs.now ≤ 2 ^ 31 }
-    ensures { IfOk result (λ octets. octets ≡ signed_octets tbs.now (L.signature signer.now leaf tbs.now)) }
+    ensures written { IfOk result (λ octets. octets ≡ signed_octets tbs.now (L.signature signer.now leaf tbs.now)) }
+    ensures short { IfOk result (λ octets. length octets ≤ length tbs.now + 2 ^ 17) }
 {
     let sig = signed(signer, leaf, tbs)?;
     write_cert(alloc, tbs, sig.as_slice())
@@ -49,7 +50,9 @@ pub fn cert_of_plan<L: LeafSigner>(
     requires ends { plan.now.not_after ≤ 253_402_300_799 }
     requires counted { length plan.now.issuer + length plan.now.subject + length plan.now.spki + length plan.now.exts ≤ 2 ^ 30 }
     requires below { leaf < L.count signer.now }
-    ensures { IfOk result (λ octets. octets ≡ plan_certificate (L.signature signer.now) leaf plan.now) }
+    ensures written { IfOk result (λ octets. octets ≡ plan_certificate (L.signature signer.now) leaf plan.now) }
+    // A signature has at most 75,000 octets.
+    ensures short { IfOk result (λ octets. length octets ≤ length plan.now.issuer + length plan.now.subject + length plan.now.spki + length plan.now.exts + 2 ^ 18) }
 {
     let tbs = tbs_of_plan(alloc, plan)?;
     certificate_of(alloc, signer, leaf, tbs.as_slice())
@@ -76,7 +79,8 @@ fn cert_of_change<L: LeafSigner>(
     requires kept { IsKept c.now }
     requires founding { AreFounding keys.now }
     requires below { leaf_of c.now < L.count signer.now }
-    ensures { IfOk result (λ octets. octets ≡ cert_of (L.signature signer.now) keys.now c.now) }
+    ensures written { IfOk result (λ octets. octets ≡ cert_of (L.signature signer.now) keys.now c.now) }
+    ensures short { IfOk result (λ octets. length octets ≤ 2 ^ 31 + 2 ^ 17) }
 {
     let tbs = tbs_of_change(alloc, keys, c)?;
     certificate_of(alloc, signer, leaf_of(c), tbs.as_slice())
@@ -88,7 +92,8 @@ pub fn tbs_of(alloc: Global, keys: &Brief, r: &Receipt) -> Result<Octets, AllocE
     requires grant { IsGrant r.now.change }
     requires kept { IsKept r.now.change }
     requires founding { AreFounding keys.now }
-    ensures { IfOk result (λ octets. octets ≡ tbs_of keys.now r.now.change) }
+    ensures written { IfOk result (λ octets. octets ≡ tbs_of keys.now r.now.change) }
+    ensures short { IfOk result (λ octets. length octets ≤ 2 ^ 31) }
 {
     tbs_of_change(alloc, keys, r.change())
 }
@@ -105,7 +110,8 @@ pub fn cert_of<L: LeafSigner>(
     requires kept { IsKept r.now.change }
     requires founding { AreFounding keys.now }
     requires below { leaf_of r.now.change < L.count signer.now }
-    ensures { IfOk result (λ octets. octets ≡ cert_of (L.signature signer.now) keys.now r.now.change) }
+    ensures written { IfOk result (λ octets. octets ≡ cert_of (L.signature signer.now) keys.now r.now.change) }
+    ensures short { IfOk result (λ octets. length octets ≤ 2 ^ 31 + 2 ^ 17) }
 {
     cert_of_change(alloc, signer, keys, r.change())
 }

@@ -22,8 +22,8 @@ cert_of_plan-requires-2-clause-ends c = rw c.in_ok-reply.ensures.planned (omega 
 
 pub returns-clause-root : goal.returns-clause-root
 unfolding root_of
-returns-clause-root c = rw (c.in_ok-cert_of_plan.ensures, c.in_ok-root.ensures.planned, c.brief_of-brief.ensures) refl
+returns-clause-root c = rw (c.in_ok-cert_of_plan.ensures.written, c.in_ok-root.ensures.planned, c.brief_of-brief.ensures) refl
 
 pub returns-clause-reply : goal.returns-clause-reply
 unfolding reply_of
-returns-clause-reply c = rw (c.in_ok-cert_of_plan-2.ensures, c.in_ok-reply.ensures.planned, c.brief_of-brief.ensures) refl
+returns-clause-reply c = rw (c.in_ok-cert_of_plan-2.ensures.written, c.in_ok-reply.ensures.planned, c.brief_of-brief.ensures) refl
