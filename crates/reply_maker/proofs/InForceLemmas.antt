@@ -155,7 +155,7 @@ stamped front s (Lapse time tid) same a = tt
 -- ---- its receipt
 
 -- the change at a place, its stamp, and what its receipt is made of
-record IsMade (h : History) (i : ℕ) (r : Receipted) : Type 0 where
+pub record IsMade (h : History) (i : ℕ) (r : Receipted) : Type 0 where
   pub change : Change
   pub stamp : Stamp
   pub stands : slice_get h i ≡ Some change
@@ -170,7 +170,7 @@ made_at : (h : History) (i : ℕ) (found : Option Change) (r : Receipted) → sl
 made_at h i None r there e = absurd (none-some r e)
 made_at h i (Some c) r there e = made_of h i c (stamp_of c) r there refl e
 
-made : (h : History) (n : ℕ) (r : Receipted) → receipt_at h n ≡ Some r → (i : ℕ) × (n ≡ suc i) × IsMade h i r
+pub made : (h : History) (n : ℕ) (r : Receipted) → receipt_at h n ≡ Some r → (i : ℕ) × (n ≡ suc i) × IsMade h i r
 unfolding receipt_at
 made h zero r e = absurd (none-some r e)
 made h (suc i) r e = (i, refl, made_at h i (slice_get h i) r refl e)
