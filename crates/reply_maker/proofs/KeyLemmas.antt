@@ -1,5 +1,5 @@
 -- The trees of a key file are its keys.
-use Rattle.std.specs.Prelude.{ℕ, ◌≡◌, ◌≢◌, List, false, Option, Err, refl}
+use Rattle.std.specs.Prelude.{ℕ, ◌≡◌, ◌≢◌, List, false, Option, Err, IfSome, refl}
 use Rattle.std.proofs.Common.{sym, ◌∙◌, ap, subst}
 use Rattle.lms_tree.specs.Keys.{Secret}
 use Rattle.hss_sig.specs.OneLevel.{hss_key}
@@ -10,7 +10,7 @@ use Rattle.reply_maker.specs.declared.key_file.KeyFault.{KeyFault}
 use Rattle.reply_maker.specs.declared.key_file.KeyFault.TheVariants.{KeyMismatch}
 use Rattle.reply_maker.specs.declared.certificates.OwnCertificates.{OwnCertificates}
 use Rattle.reply_maker.specs.Parts.{HasParts, joined}
-use Rattle.reply_maker.specs.Keys.{AreUsable, issue_secret, reply_secret, identity_in, identity_of, known_identity, are_blank, Agrees, certificates_of, file_of, AreKept, Loaded, Gives}
+use Rattle.reply_maker.specs.Keys.{AreUsable, AreShort, issue_secret, reply_secret, identity_in, identity_of, known_identity, are_blank, Agrees, certificates_of, file_of, AreKept, Loaded, Gives}
 use Rattle.reply_maker.proofs.FileLemmas.{joined_parts}
 
 -- the trees of a key file
@@ -38,8 +38,8 @@ pub agrees : (k : KeyFile) (s : Settings) (issue reply : Secret) → AreGrown k 
 agrees k s issue reply g same filled = sym (told_is k s issue reply g) ∙ same filled
 
 kept_with : (k : KeyFile) (s : Settings) (issue reply : Secret) (own : Option OwnCertificates) → AreGrown k s issue reply → AreUsable s → Agrees (joined k) s
-    → own ≡ certificates_of issue s → AreKept issue reply own s
-kept_with k s issue reply own g usable same made =
+    → own ≡ certificates_of issue s → IfSome own AreShort → AreKept issue reply own s
+kept_with k s issue reply own g usable same made short =
     let is : joined k ≡ file_of issue reply = sym (file_is k s issue reply g) in
     record {
       file = subst (λ (f : List ℕ). IsKeyFile f) is g.parts.form;
@@ -48,13 +48,14 @@ kept_with k s issue reply own g usable same made =
       reply_is = g.reply_is ∙ ap (λ (f : List ℕ). reply_secret f s) is;
       agrees = subst (λ (f : List ℕ). Agrees f s) is same;
       own = made;
+      short = short;
     }
 
 -- .. with a copy of the settings
 pub kept : (k : KeyFile) (s copy : Settings) (issue reply : Secret) (own : Option OwnCertificates) → AreGrown k s issue reply → AreUsable s → Agrees (joined k) s
-    → own ≡ certificates_of issue s → copy ≡ s → AreKept issue reply own copy
-kept k s copy issue reply own g usable same made is =
-    subst (λ (c : Settings). AreKept issue reply own c) (sym is) (kept_with k s issue reply own g usable same made)
+    → own ≡ certificates_of issue s → IfSome own AreShort → copy ≡ s → AreKept issue reply own copy
+kept k s copy issue reply own g usable same made short is =
+    subst (λ (c : Settings). AreKept issue reply own c) (sym is) (kept_with k s issue reply own g usable same made short)
 
 abbrev loaded : List ℕ → Settings → Loaded
 loaded file s = record { file = file; settings = s }

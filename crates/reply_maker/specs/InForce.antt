@@ -1,5 +1,5 @@
 -- What a change is, at which a reply is made: one that these settings may have made.
-use Rattle.std.specs.Prelude.{ℕ, ◌≡◌, ◌<◌, ◌≤◌, length, Option, None, IfSome}
+use Rattle.std.specs.Prelude.{◌≡◌, ◌<◌, ◌≤◌, length, None, IfSome}
 use Rattle.deal_changes.specs.declared.change.Settings.{Settings}
 use Rattle.deal_changes.specs.Times.{stamp_of}
 use Rattle.deal_model.specs.Keys.{leaves_of}

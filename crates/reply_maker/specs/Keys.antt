@@ -1,5 +1,5 @@
 -- The keys of an authority, as its key file and its settings have them.
-use Rattle.std.specs.Prelude.{ℕ, ◌≡◌, ◌≢◌, ◌≤◌, ◌==◌, Bool, false, List, ◌++◌, length, drop, Option, Some, None, if◌then◌else◌, Result, Ok, Err, IfSome, IsTrue}
+use Rattle.std.specs.Prelude.{ℕ, ◌≡◌, ◌≢◌, ◌≤◌, ◌^◌, ◌==◌, Bool, false, List, ◌++◌, length, drop, Option, Some, None, if◌then◌else◌, Result, Ok, Err, IfSome, IsTrue}
 use Rattle.std.specs.List.{list_all}
 use Rattle.lms_tree.specs.Keys.{Secret}
 use Rattle.hss_sig.specs.OneLevel.{hss_key}
@@ -77,6 +77,11 @@ file_of issue reply = key_file issue.seed issue.id reply.seed reply.id
 abbrev pub certificates_of : Secret → Settings → Option OwnCertificates
 certificates_of issue s = if are_blank s then None else Some (record { root = root_of issue s; reply = reply_of issue s })
 
+-- what its own certificates have at most: a signature has 75,000 octets or less
+pub record AreShort (c : OwnCertificates) : Type 0 where
+  pub root : length c.root ≤ 2 ^ 19
+  pub reply : length c.reply ≤ 2 ^ 19
+
 -- The keys are those of their key file, under the settings that they are kept with, and the file is the settings' own.
 pub record AreKept (issue reply : Secret) (certificates : Option OwnCertificates) (s : Settings) : Type 0 where
   pub file : IsKeyFile (file_of issue reply)
@@ -85,6 +90,7 @@ pub record AreKept (issue reply : Secret) (certificates : Option OwnCertificates
   pub reply_is : reply ≡ reply_secret (file_of issue reply) s
   pub agrees : Agrees (file_of issue reply) s
   pub own : certificates ≡ certificates_of issue s
+  pub short : IfSome certificates AreShort
 
 -- what keys were loaded from
 pub record Loaded : Type 0 where

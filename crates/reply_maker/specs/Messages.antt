@@ -1,8 +1,7 @@
 -- The messages of an authority as functions of what they say (RFC 9810, 5.1).
-use Rattle.std.specs.Prelude.{ℕ, ◌++◌, ◌==◌, List, [], length, take, drop, Option, None, Some, option_map, unwrap_or, if◌then◌else◌}
+use Rattle.std.specs.Prelude.{ℕ, ◌==◌, List, [], length, take, drop, Option, option_map, if◌then◌else◌}
 use Rattle.der_base.specs.Element.{element}
 use Rattle.asn_types.specs.Algorithm.{Algorithm}
-use Rattle.pbmac.specs.Mac.{mac_of}
 use Rattle.pki_header.specs.Plan.{planned_content}
 use Rattle.pki_header.specs.declared.plan.HeaderPlan.{HeaderPlan}
 use Rattle.pki_message.specs.Frame.{protected_part}

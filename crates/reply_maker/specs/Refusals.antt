@@ -1,5 +1,5 @@
 -- Refusals: error messages (RFC 9810, 5.3.21).
-use Rattle.std.specs.Prelude.{ℕ, List, [], ◌++◌, Option, None, Some, option_map, unwrap_or}
+use Rattle.std.specs.Prelude.{ℕ, List, [], Option, None, Some, option_map, unwrap_or}
 use Rattle.der_base.specs.Element.{element}
 use Rattle.cmp_ports.specs.Reasons.{name_of}
 use Rattle.cmp_ports.specs.declared.fail_info.FailInfo.{FailInfo}

@@ -12,7 +12,6 @@ use Rattle.deal_changes.specs.declared.change.Change.TheVariants.{Grant, Hold, T
 use Rattle.deal_changes.specs.declared.change.Stamp.{Stamp}
 use Rattle.deal_changes.specs.declared.change.Who.{Who}
 use Rattle.deal_changes.specs.declared.change.Who.TheVariants.{Listed, Cert}
-use Rattle.deal_changes.specs.declared.change.Wish.{Wish}
 use Rattle.deal_changes.specs.declared.change.Settings.{Settings}
 use Rattle.deal_changes.specs.Times.{stamp_of}
 use Rattle.deal_model.specs.declared.asking.Brief.{Brief}
@@ -78,15 +77,15 @@ abbrev pub response_body : Body4 → Option (List ℕ) → List ℕ → Option (
 response_body b ca_pubs status cert = element (reply_tag b) (element 0x30 (rep_octets ca_pubs (reply_id b) status cert))
 
 -- caPubs has the authority's own certificate, in an ip alone
-abbrev pub ca_pubs_for : Replier → Body4 → Option (List ℕ)
-ca_pubs_for k Ir = Some k.root
-ca_pubs_for k _ = None
+abbrev pub ca_pubs_for : List ℕ → Body4 → Option (List ℕ)
+ca_pubs_for root Ir = Some root
+ca_pubs_for root _ = None
 
 abbrev pub granted_status : Bool → ℕ
 granted_status mods = if mods then 1 else 0
 
 abbrev pub granted_body : Replier → Body4 → Bool → Change → List ℕ
-granted_body k b mods c = response_body b (ca_pubs_for k b) (status_octets (granted_status mods) None None) (Some (cert_of k.issues k.keys c))
+granted_body k b mods c = response_body b (ca_pubs_for k.root b) (status_octets (granted_status mods) None None) (Some (cert_of k.issues k.keys c))
 
 abbrev pub waiting_body : Body4 → List ℕ
 waiting_body b = response_body b None (status_octets 3 None None) None

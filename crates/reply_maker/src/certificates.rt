@@ -2,6 +2,7 @@
 ghost use Rattle.std.specs.Prelude.{◌≡◌, ◌<◌, ◌≤◌, IfOk};
 ghost use Rattle.hss_sig.specs.OneLevel.{leaf_count};
 ghost use Rattle.reply_maker.specs.Certificates.{root_of, reply_of};
+ghost use Rattle.reply_maker.specs.Keys.{AreShort};
 
 use cert_maker::{cert_of_plan, reply_plan, root_plan};
 use cmp_ports::Octets;
@@ -27,6 +28,7 @@ pub(crate) fn certificates(
     requires time { settings.now.time ≤ 250_000_000_000 }
     ensures root { IfOk result (λ c. c.root ≡ root_of issue.now settings.now) }
     ensures reply { IfOk result (λ c. c.reply ≡ reply_of issue.now settings.now) }
+    ensures short { IfOk result AreShort }
 {
     let brief = brief_of(settings);
     let root = root_plan(alloc, &brief, settings.time)?;

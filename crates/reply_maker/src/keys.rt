@@ -1,10 +1,10 @@
 //! The keys of an authority.
-ghost use Rattle.std.specs.Prelude.{◌≡◌, ◌≢◌, ◌<◌, ◌≤◌, IfOk, IfErr, IsErrOf, OnOk, MatchOption, true, false};
+ghost use Rattle.std.specs.Prelude.{◌≡◌, ◌≢◌, ◌<◌, ◌≤◌, IfOk, IfErr, IsErrOf, OnOk, MatchOption, IfSome, true, false};
 ghost use Rattle.cmp_ports.specs.Faults.{Rose};
 ghost use Rattle.hss_sig.specs.OneLevel.{hss_key, leaf_count};
 ghost use Rattle.reply_maker.specs.Certificates.{root_of, reply_of};
 ghost use Rattle.reply_maker.specs.Parts.{HasParts, joined};
-ghost use Rattle.reply_maker.specs.Keys.{AreUsable, certificates_of, issue_secret, reply_secret, identity_of, are_blank, Gives, IsLoad};
+ghost use Rattle.reply_maker.specs.Keys.{AreUsable, AreShort, certificates_of, issue_secret, reply_secret, identity_of, are_blank, Gives, IsLoad};
 
 use crate::certificates::{OwnCertificates, certificates};
 use crate::key_file::{KeyFault, KeyFile, read_key_file};
@@ -40,7 +40,8 @@ fn certificates_of(
 ) -> Result<Option<OwnCertificates>, AllocError>
     requires leaves { 1 < leaf_count issue.now.tree }
     requires time { settings.now.time ≤ 250_000_000_000 }
-    ensures { IfOk result (λ c. c ≡ certificates_of issue.now settings.now) }
+    ensures made { IfOk result (λ c. c ≡ certificates_of issue.now settings.now) }
+    ensures short { IfOk result (λ c. IfSome c AreShort) }
 {
     match known_identity(settings) {
         None => Ok(None),
@@ -161,9 +162,10 @@ impl Keys {
 
     /// The authority's own certificate and that of its reply key; none where the settings' keys aren't made yet.
     pub(crate) fn certificates(&self) -> Option<&OwnCertificates>
-        ensures { MatchOption result (are_blank self.now.settings ≡ true) (λ c. (are_blank self.now.settings ≡ false)
+        ensures made { MatchOption result (are_blank self.now.settings ≡ true) (λ c. (are_blank self.now.settings ≡ false)
             × (c.now.root ≡ root_of (issue_secret self.now.file self.now.settings) self.now.settings)
             × (c.now.reply ≡ reply_of (issue_secret self.now.file self.now.settings) self.now.settings)) }
+        ensures short { IfSome result (λ c. AreShort c.now) }
     {
         self.certificates.as_ref()
     }

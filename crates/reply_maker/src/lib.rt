@@ -5,6 +5,7 @@
 mod bodies;
 mod certificates;
 mod fields;
+mod headers;
 mod key_file;
 mod keys;
 mod message;

@@ -1,5 +1,5 @@
 -- by its parts
-use Rattle.std.proofs.Common.{ap, sym, ◌∙◌}
+use Rattle.std.proofs.Common.{◌∙◌}
 use Rattle.deal_table.specs.Message.{echoed}
 use Rattle.reply_maker.specs.Guards.{secret_in}
 use Rattle.reply_maker.proofs.MessageLemmas.{guarded_is}

@@ -1,5 +1,5 @@
 -- by its parts
-use Rattle.std.proofs.Common.{ap, sym, ◌∙◌}
+use Rattle.std.proofs.Common.{◌∙◌}
 use Rattle.std.specs.Option.{option_copied}
 use Rattle.deal_table.specs.Message.{echoed}
 use Rattle.reply_maker.proofs.MessageLemmas.{unprotected_is}

@@ -18,7 +18,7 @@ invariant_of-result c =
     record { parts = c.requires.parts; issue_is = c.in-Ok.ensures.issue; reply_is = c.in-Ok.ensures.reply } in
     kept file c.args.settings.now c.in-Ok-copy_of.settings trees.issue trees.reply c.in-Ok-certificates_of.certificates grown c.requires.usable
     (agrees file c.args.settings.now trees.issue trees.reply grown c.in-Ok-compare.ensures)
-    c.in-Ok-certificates_of.ensures c.in-Ok-copy_of.ensures
+    c.in-Ok-certificates_of.ensures.made c.in-Ok-certificates_of.ensures.short c.in-Ok-copy_of.ensures
 
 pub returns-clause-gives : goal.returns-clause-gives
 returns-clause-gives c =
