@@ -84,9 +84,10 @@ ROWS = [
     ("nested, two messages", "Go", nested(message() + message())),
 ]
 
-for what, answer, text in ROWS:
-    print(f"{what}: {answer}: {text.hex()}")
-INNER = message(alg=PBMAC1, kid=b"in", tid=b"u")
-print("digest of the inner:", hashlib.sha256(INNER).hexdigest())
-print("digest of PBMAC1:", hashlib.sha256(message(alg=PBMAC1, kid=bytes(64))).hexdigest())
-print("digest of 3000:", hashlib.sha256(element(0x30)).hexdigest())
+if __name__ == "__main__":
+    for what, answer, text in ROWS:
+        print(f"{what}: {answer}: {text.hex()}")
+    INNER = message(alg=PBMAC1, kid=b"in", tid=b"u")
+    print("digest of the inner:", hashlib.sha256(INNER).hexdigest())
+    print("digest of PBMAC1:", hashlib.sha256(message(alg=PBMAC1, kid=bytes(64))).hexdigest())
+    print("digest of 3000:", hashlib.sha256(element(0x30)).hexdigest())
