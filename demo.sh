@@ -1,5 +1,5 @@
 #!/usr/bin/env bash
-# Builds cmpca and shows its answers: one message that verifies, one refusal of each kind, and a journal.
+# Builds cmpca and shows its answers: one message that verifies, one refusal of each kind, a journal, and an authority that is founded.
 # Safe to run twice; nothing is left behind. Ends with status 1 where an answer isn't the one told.
 set -euo pipefail
 
@@ -71,7 +71,7 @@ show "A messageTime put in afterwards" \
 show "A secret of 4 octets" \
     "" "usage: cmpca verify SECRET | JOURNAL KEY COMMAND" 2 verify 4a656665
 
-# The journal of an enrolled device, laid out by Python since no command founds one yet
+# The journal of an enrolled device, laid out by Python since no command enrols one yet
 journal=$(python3 "$top/tests/vectors/journal_vectors.py" | sed -n 's/^journal //p')
 folder=$(mktemp -d)
 trap 'rm -rf "$folder"' EXIT
@@ -85,5 +85,44 @@ octets "${journal%00}01ffffffff" >journal
 show "A record that isn't whole behind its last one" "" "damaged at 660" 7 journal key show
 octets "${journal:0:16}" >journal
 show "A file of eight octets" "" "not founded" 8 journal key show
+
+# An authority with fresh keys: 96 octets, in which the two identifiers differ. Python says by what it must be known
+rm journal
+identifiers_differ() {
+    [ "$(tail -c +33 key | head -c 16 | od -An -v -tx1)" != "$(tail -c 16 key | od -An -v -tx1)" ]
+}
+: >key
+until identifiers_differ; do head -c 96 /dev/urandom >key; done
+head -c 95 key >short
+hex() { od -An -v -tx1 | tr -d ' \n'; }
+settings=$(hex <<'SETTINGS'
+name = "Fleet CA"
+issue_tree = 5
+reply_tree = 5
+issue_ots = 4
+reply_ots = 4
+wait = 300
+skew = 300
+rounds = 1000
+check_after = 60
+days = 365
+SETTINGS
+)
+devices=$(hex <<'DEVICES'
+[[credential]]
+kind = "mac"
+reference = "dev-1"
+secret = "7365637265742d31"
+rights = ["enrol"]
+DEVICES
+)
+show "A key file of 95 octets" "$settings" "bad key file" 10 journal short init
+show "Settings and a key file found an authority" \
+    "$settings" "$(python3 "$top/tests/vectors/init_vectors.py" key)" 0 journal key init
+show "A journal is founded once" "$settings" "refused already founded" 1 journal key init
+show "The credential of a device" "$devices" "enlisted 1" 0 journal key enlist
+show "How it stands" "" "changes 2
+issue 2 of 32
+reply 0 of 32" 0 journal key show
 
 exit $failed

@@ -19,6 +19,7 @@ python3 "$here/rule_vectors.py" >"$out/rules.txt"
 python3 "$here/lines_vectors.py" >"$out/lines.txt"
 python3 "$here/journal_vectors.py" >"$out/journals.txt"
 python3 "$here/log_vectors.py" >"$out/logs.txt"
+python3 "$here/init_vectors.py" >"$out/inits.txt"
 python3 "$here/near_certs.py" >"$out/near_certs.txt"
 python3 "$here/neighbours.py" >"$out/neighbours.txt"
 python3 "$here/ask_vectors.py" >"$out/asks.txt"
@@ -32,7 +33,7 @@ else
     echo "skipped: openssl_certs.txt, pkcs10.txt and key_update.txt (no openssl)"
 fi
 echo "hmac.txt, frames.txt, frame.der, changes.txt, histories.txt, rules.txt, lines.txt, journals.txt, logs.txt,"
-echo "near_certs.txt, neighbours.txt, asks.txt and wishes.txt are made"
+echo "inits.txt, near_certs.txt, neighbours.txt, asks.txt and wishes.txt are made"
 
 jars=${BCJARS:-/usr/share/java}
 path=$jars/bcprov.jar:$jars/bcutil.jar

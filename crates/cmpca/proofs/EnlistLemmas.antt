@@ -10,11 +10,11 @@ use Rattle.registry.specs.Credentials.{credentials_in}
 use Rattle.desk.specs.Due.{event_time}
 use Rattle.desk.specs.Images.{RecoversWith}
 use Rattle.desk.specs.Listings.{IsEnlisting}
-use Rattle.cmpca.specs.declared.enlist.Unlisted.{Unlisted}
-use Rattle.cmpca.specs.declared.enlist.Unlisted.TheVariants.{Bad}
-use Rattle.cmpca.specs.declared.enlist.Unlisted.TheVariants as unlisted
+use Rattle.cmpca.specs.declared.file.Unread.{Unread}
+use Rattle.cmpca.specs.declared.file.Unread.TheVariants.{Bad}
+use Rattle.cmpca.specs.declared.file.Unread.TheVariants as unread
 use Rattle.cmpca.specs.declared.status.Status.{Status}
-use Rattle.cmpca.specs.Deeds.{IsFile, IsUnlisted, IsUnlistedReply, IsCutShort, Lists, ListsRead, Enlists, IsFileListed, file_status, file_line}
+use Rattle.cmpca.specs.Deeds.{IsFile, IsUnlisted, IsUnreadReply, IsCutShort, Lists, ListsRead, Enlists, IsFileListed, file_status, file_line}
 use Rattle.cmpca.specs.Reply.{Replied}
 use Rattle.cmpca.proofs.RunLemmas.{some_input}
 
@@ -29,10 +29,10 @@ own_listed file list now h image tells left = ⊎_elim (λ was. inl was) (λ mor
 -- ---- none was read
 
 -- a file that the input may be, for which each such reply is right
-pub record IsRead (left : Option (List ℕ)) (u : Unlisted) : Type 0 where
+pub record IsRead (left : Option (List ℕ)) (u : Unread) : Type 0 where
   pub file : List ℕ
   pub whole : IfSome left (λ all. all ≡ file)
-  pub replies : (now : ℕ) (h : History) (status : Status) (text : List ℕ) (d : Option Change) → d ≡ None → IsUnlistedReply u status text → Enlists file now h status text h d
+  pub replies : (now : ℕ) (h : History) (status : Status) (text : List ℕ) (d : Option Change) → d ≡ None → IsUnreadReply u status text → Enlists file now h status text h d
 
 told_unlisted : (left : Option (List ℕ)) (fault : RegFault) → IsFile left (Err fault) → IsRead left (Bad fault)
 told_unlisted left fault is = record {
@@ -49,8 +49,8 @@ short_reply file now h status text d clear short = inr (short, (refl, clear))
 no_memory_short : (status : Status) (text : List ℕ) → status ≡ file_status files.NoMemory → text ≡ file_line files.NoMemory → IsCutShort status text
 no_memory_short status text ends says = subst (λ (s : Status). IsCutShort s text) (sym ends) says
 
-pub read_of : (left : Option (List ℕ)) (u : Unlisted) → IsUnlisted left u → IsRead left u
-read_of left unlisted.ReadFault is = let i = some_input left in record { file = i.0; whole = i.1; replies = λ now h status text d clear short. short_reply i.0 now h status text d clear short }
+pub read_of : (left : Option (List ℕ)) (u : Unread) → IsUnlisted left u → IsRead left u
+read_of left unread.ReadFault is = let i = some_input left in record { file = i.0; whole = i.1; replies = λ now h status text d clear short. short_reply i.0 now h status text d clear short }
 read_of left (Bad files.NoMemory) is = let i = some_input left in
     record { file = i.0; whole = i.1; replies = λ now h status text d clear r. short_reply i.0 now h status text d clear (⊎_elim (λ said. no_memory_short status text said.0 said.1) (λ short. short) r) }
 read_of left (Bad files.BadToml) is = told_unlisted left files.BadToml (is (λ e. absurd (cc e)))
@@ -59,5 +59,5 @@ read_of left (Bad (files.BadCredential index cause)) is = told_unlisted left (fi
 read_of left (Bad (files.BadSetting key)) is = told_unlisted left (files.BadSetting key) (is (λ e. absurd (cc e)))
 
 -- the reply, for one of the causes
-pub told_as : (u v : Unlisted) (old new : Option (List ℕ)) (status : Status) → u ≡ v → Replied (IsUnlistedReply v) old new status → Replied (λ reply text. IsUnlistedReply u reply text) old new status
-told_as u v old new status same r = subst (λ (w : Unlisted). Replied (λ reply text. IsUnlistedReply w reply text) old new status) (sym same) r
+pub told_as : (u v : Unread) (old new : Option (List ℕ)) (status : Status) → u ≡ v → Replied (IsUnreadReply v) old new status → Replied (λ reply text. IsUnreadReply u reply text) old new status
+told_as u v old new status same r = subst (λ (w : Unread). Replied (λ reply text. IsUnreadReply w reply text) old new status) (sym same) r

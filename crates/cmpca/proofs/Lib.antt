@@ -5,3 +5,6 @@ pub mod ShowLemmas
 mod FileLemmas
 mod ChangeLemmas
 mod EnlistLemmas
+mod FoundLemmas
+mod InitLemmas
+mod InitReplyLemmas

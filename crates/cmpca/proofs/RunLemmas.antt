@@ -8,12 +8,13 @@ use Rattle.cmp_ports.specs.declared.order.Order.TheVariants as orders
 use Rattle.deal_changes.specs.declared.change.Kind.{Kind}
 use Rattle.pki_message.specs.Frame.{FrameForm, IsFrame, message_limit}
 use Rattle.cmpca.specs.declared.words.Command.{Command}
-use Rattle.cmpca.specs.declared.words.Command.TheVariants.{Verify, Show, Enlist, Dismiss, Release, Deny}
+use Rattle.cmpca.specs.declared.words.Command.TheVariants.{Verify, Init, Show, Enlist, Dismiss, Release, Deny}
 use Rattle.cmpca.specs.Causes.{IsSoleVerdict}
 use Rattle.cmpca.specs.Lines.{line}
 use Rattle.cmpca.specs.Changes.{DiskRun}
 use Rattle.cmpca.specs.Deeds.{Enlists, IsFileListed, Dismisses, IsDismissedAt}
-use Rattle.cmpca.specs.Reply.{Ran, Replied, Wrote, IsReply, IsVerifyReply, IsShowReply, IsChangeReply, IsOrderReply, TellsVerdict, verdict_status, verdict_line, usage_line}
+use Rattle.cmpca.specs.Inits.{IsInitReply}
+use Rattle.cmpca.specs.Reply.{Ran, RanKeyed, Replied, Wrote, IsReply, IsVerifyReply, IsShowReply, IsChangeReply, IsOrderReply, TellsVerdict, verdict_status, verdict_line, usage_line}
 use Rattle.cmpca.specs.declared.verdict.Verdict.{Verdict}
 use Rattle.cmpca.specs.declared.verdict.Verdict.TheVariants.{Verified, BadDataFormat, Unprotected, BadAlg, WrongMac}
 use Rattle.cmpca.specs.declared.status.Status.{Status}
@@ -67,17 +68,26 @@ replied IsForm old new reply status text is wrote = record { reply = reply; text
 pub reformed : (P Q : Status → List ℕ → Type 0) (old new : Option (List ℕ)) (status : Status) → ((reply : Status) (text : List ℕ) → P reply text → Q reply text) → Replied P old new status → Replied Q old new status
 reformed P Q old new status form r = record { reply = r.reply; text = r.text; is_reply = form r.reply r.text r.is_reply; wrote = r.wrote }
 
--- a run whose reply isn't by the input
-pub ran_any : (left : Option (List ℕ)) (P : Status → List ℕ → Type 0) (Q : List ℕ → Status → List ℕ → Type 0) (old new : Option (List ℕ)) (status : Status)
-    → ((input : List ℕ) (reply : Status) (text : List ℕ) → P reply text → Q input reply text) → Replied P old new status → Ran left Q old new status
-ran_any left P Q old new status form r =
+-- a run whose reply is by neither the input nor the key file
+keyed_any : (left key : Option (List ℕ)) (P : Status → List ℕ → Type 0) (Q : List ℕ → List ℕ → Status → List ℕ → Type 0) (old new : Option (List ℕ)) (status : Status)
+    → ((input file : List ℕ) (reply : Status) (text : List ℕ) → P reply text → Q input file reply text) → Replied P old new status → RanKeyed left key Q old new status
+keyed_any left key P Q old new status form r =
     let i = some_input left in
-    record { input = i.0; read = i.1; replied = reformed P (Q i.0) old new status (form i.0) r }
+    let k = some_input key in
+    record { input = i.0; read = i.1; key = k.0; key_read = k.1; replied = reformed P (Q i.0 k.0) old new status (form i.0 k.0) r }
 
--- a run whose reply is by the input
-pub ran_form : (left : Option (List ℕ)) (P Q : List ℕ → Status → List ℕ → Type 0) (old new : Option (List ℕ)) (status : Status)
-    → ((input : List ℕ) (reply : Status) (text : List ℕ) → P input reply text → Q input reply text) → Ran left P old new status → Ran left Q old new status
-ran_form left P Q old new status form r = record { input = r.input; read = r.read; replied = reformed (P r.input) (Q r.input) old new status (form r.input) r.replied }
+-- a run whose reply is by the input alone
+keyed_ran : (left key : Option (List ℕ)) (P : List ℕ → Status → List ℕ → Type 0) (Q : List ℕ → List ℕ → Status → List ℕ → Type 0) (old new : Option (List ℕ)) (status : Status)
+    → ((input file : List ℕ) (reply : Status) (text : List ℕ) → P input reply text → Q input file reply text) → Ran left P old new status → RanKeyed left key Q old new status
+keyed_ran left key P Q old new status form r =
+    let k = some_input key in
+    record { input = r.input; read = r.read; key = k.0; key_read = k.1; replied = reformed (P r.input) (Q r.input k.0) old new status (form r.input k.0) r.replied }
+
+-- a run whose reply is by both
+keyed_form : (left key : Option (List ℕ)) (P Q : List ℕ → List ℕ → Status → List ℕ → Type 0) (old new : Option (List ℕ)) (status : Status)
+    → ((input file : List ℕ) (reply : Status) (text : List ℕ) → P input file reply text → Q input file reply text) → RanKeyed left key P old new status → RanKeyed left key Q old new status
+keyed_form left key P Q old new status form r =
+    record { input = r.input; read = r.read; key = r.key; key_read = r.key_read; replied = reformed (P r.input r.key) (Q r.input r.key) old new status (form r.input r.key) r.replied }
 
 -- ---- verify
 
@@ -110,32 +120,35 @@ no_memory_reply (Some f) = inr record { fault = mounts.NoMemory; unmounted = tt;
 
 -- ---- each command of the words
 
-module _ (o : Option Command) (left : Option (List ℕ)) (IsReading : ℕ → Type 0) (disk : DiskRun) (old new : Option (List ℕ)) (status : Status) where
+module _ (o : Option Command) (left key : Option (List ℕ)) (IsReading : ℕ → Type 0) (disk : DiskRun) (old new : Option (List ℕ)) (status : Status) where
   -- the run for what the words ask for
   abbrev Run : Type 0
-  Run = Ran left (IsReply o IsReading disk) old new status
+  Run = RanKeyed left key (IsReply o IsReading disk) old new status
 
   -- the same, for a command
-  as_asked : (command : Option Command) → o ≡ command → Ran left (IsReply command IsReading disk) old new status → Run
-  as_asked command asked r = subst (λ (c : Option Command). Ran left (IsReply c IsReading disk) old new status) (sym asked) r
+  as_asked : (command : Option Command) → o ≡ command → RanKeyed left key (IsReply command IsReading disk) old new status → Run
+  as_asked command asked r = subst (λ (c : Option Command). RanKeyed left key (IsReply c IsReading disk) old new status) (sym asked) r
 
   pub asked_nothing : o ≡ None → Wrote old new Usage usage_line status → Run
-  asked_nothing none wrote = as_asked None none (ran_any left _ _ old new status (λ input reply text is. is) (replied (λ reply text. (reply ≡ Usage) × (text ≡ usage_line)) old new Usage status usage_line (refl, refl) wrote))
+  asked_nothing none wrote = as_asked None none (keyed_any left key _ _ old new status (λ input file reply text is. is) (replied (λ reply text. (reply ≡ Usage) × (text ≡ usage_line)) old new Usage status usage_line (refl, refl) wrote))
 
   pub asked_verify : (secret : List ℕ) → o ≡ Some (Verify secret) → Ran left (IsVerifyReply secret) old new status → Run
-  asked_verify secret asked r = as_asked (Some (Verify secret)) asked (ran_form left _ _ old new status (λ input reply text is. is) r)
+  asked_verify secret asked r = as_asked (Some (Verify secret)) asked (keyed_ran left key _ _ old new status (λ input file reply text is. is) r)
+
+  pub asked_init : (now : ℕ) → IsReading now → o ≡ Some Init → RanKeyed left key (IsInitReply disk now) old new status → Run
+  asked_init now reading asked r = as_asked (Some Init) asked (keyed_form left key _ _ old new status (λ input file reply text is. (now, reading, is)) r)
 
   pub asked_show : o ≡ Some Show → Replied (IsShowReply disk.content_before) old new status → Run
-  asked_show asked r = as_asked (Some Show) asked (ran_any left _ _ old new status (λ input reply text is. is) r)
+  asked_show asked r = as_asked (Some Show) asked (keyed_any left key _ _ old new status (λ input file reply text is. is) r)
 
   pub asked_enlist : (now : ℕ) → IsReading now → o ≡ Some Enlist → Ran left (λ file. IsChangeReply disk (Enlists file now) (IsFileListed file now)) old new status → Run
-  asked_enlist now reading asked r = as_asked (Some Enlist) asked (ran_form left _ _ old new status (λ input reply text is. (now, reading, is)) r)
+  asked_enlist now reading asked r = as_asked (Some Enlist) asked (keyed_ran left key _ _ old new status (λ input file reply text is. (now, reading, is)) r)
 
   pub asked_dismiss : (now : ℕ) (kind : Kind) (id : List ℕ) → IsReading now → o ≡ Some (Dismiss kind id) → Replied (IsChangeReply disk (Dismisses kind id now) (IsDismissedAt kind id now)) old new status → Run
-  asked_dismiss now kind id reading asked r = as_asked (Some (Dismiss kind id)) asked (ran_any left _ _ old new status (λ input reply text is. (now, reading, is)) r)
+  asked_dismiss now kind id reading asked r = as_asked (Some (Dismiss kind id)) asked (keyed_any left key _ _ old new status (λ input file reply text is. (now, reading, is)) r)
 
   pub asked_release : (now : ℕ) (tid : List ℕ) → IsReading now → o ≡ Some (Release tid) → Replied (IsOrderReply disk (orders.Release tid) (line (codes "released")) now) old new status → Run
-  asked_release now tid reading asked r = as_asked (Some (Release tid)) asked (ran_any left _ _ old new status (λ input reply text is. (now, reading, is)) r)
+  asked_release now tid reading asked r = as_asked (Some (Release tid)) asked (keyed_any left key _ _ old new status (λ input file reply text is. (now, reading, is)) r)
 
   pub asked_deny : (now : ℕ) (tid : List ℕ) → IsReading now → o ≡ Some (Deny tid) → Replied (IsOrderReply disk (orders.Deny tid) (line (codes "denied")) now) old new status → Run
-  asked_deny now tid reading asked r = as_asked (Some (Deny tid)) asked (ran_any left _ _ old new status (λ input reply text is. (now, reading, is)) r)
+  asked_deny now tid reading asked r = as_asked (Some (Deny tid)) asked (keyed_any left key _ _ old new status (λ input file reply text is. (now, reading, is)) r)

@@ -19,9 +19,9 @@ use Rattle.desk.specs.Due.{event_time}
 use Rattle.desk.specs.Calls.{IsSame, IsOrder, IsOrdered}
 use Rattle.desk.specs.Listings.{IsEnlisting, IsEnlisted, IsDismissal, IsDismissed}
 use Rattle.cmpca.specs.Lines.{line}
-use Rattle.cmpca.specs.declared.enlist.Unlisted.{Unlisted}
-use Rattle.cmpca.specs.declared.enlist.Unlisted.TheVariants.{Bad}
-use Rattle.cmpca.specs.declared.enlist.Unlisted.TheVariants as unlisted
+use Rattle.cmpca.specs.declared.file.Unread.{Unread}
+use Rattle.cmpca.specs.declared.file.Unread.TheVariants.{Bad}
+use Rattle.cmpca.specs.declared.file.Unread.TheVariants as unread
 use Rattle.cmpca.specs.declared.status.Status.{Status}
 use Rattle.cmpca.specs.declared.status.Status.TheVariants.{Done, Refused, ReadFault, DiskFault, NoMemory}
 
@@ -106,14 +106,14 @@ pub record IsFile (left : Option (List ℕ)) (told : Result (List Credential) Re
   pub tells : credentials_in file ≡ told
 
 -- why there is no list: a fault of the file, but for want of memory; or of the input
-abbrev pub IsUnlisted : Option (List ℕ) → Unlisted → Type 0
+abbrev pub IsUnlisted : Option (List ℕ) → Unread → Type 0
 IsUnlisted left (Bad fault) = (fault ≢ files.NoMemory) → IsFile left (Err fault)
-IsUnlisted left unlisted.ReadFault = Unit {0}
+IsUnlisted left unread.ReadFault = Unit {0}
 
 -- the reply then; want of memory comes besides
-abbrev pub IsUnlistedReply : Unlisted → Status → List ℕ → Type 0
-IsUnlistedReply (Bad fault) status text = ((status ≡ file_status fault) × (text ≡ file_line fault)) ⊎ IsCutShort status text
-IsUnlistedReply unlisted.ReadFault status text = IsCutShort status text
+abbrev pub IsUnreadReply : Unread → Status → List ℕ → Type 0
+IsUnreadReply (Bad fault) status text = ((status ≡ file_status fault) × (text ≡ file_line fault)) ⊎ IsCutShort status text
+IsUnreadReply unread.ReadFault status text = IsCutShort status text
 
 -- The credentials of the file are listed at the clock's reading.
 abbrev pub Enlists : List ℕ → ℕ → History → Status → List ℕ → History → Option Change → Type 0

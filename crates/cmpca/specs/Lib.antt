@@ -6,4 +6,5 @@ pub mod Lines
 pub mod Mounts
 pub mod Changes
 pub mod Deeds
+pub mod Inits
 pub mod Reply

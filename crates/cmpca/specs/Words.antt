@@ -6,7 +6,7 @@ use Rattle.hex.specs.Hex.{decode_of}
 use Rattle.deal_changes.specs.declared.change.Kind.{Kind}
 use Rattle.deal_changes.specs.declared.change.Kind.TheVariants.{Mac, Lms}
 use Rattle.cmpca.specs.declared.words.Command.{Command}
-use Rattle.cmpca.specs.declared.words.Command.TheVariants.{Verify, Show, Enlist, Dismiss, Release, Deny}
+use Rattle.cmpca.specs.declared.words.Command.TheVariants.{Verify, Init, Show, Enlist, Dismiss, Release, Deny}
 
 -- the octets that the digits of a word stand for, in hex of either case, where there are so many
 abbrev pub octets_of : ℕ → ℕ → List ℕ → Option (List ℕ)
@@ -30,9 +30,11 @@ order_of verb word =
 
 -- a word that stands for itself
 abbrev pub lone_of : List ℕ → Option Command
-lone_of verb = if bytes_eq verb (codes "show") then Some Show else (if bytes_eq verb (codes "enlist") then Some Enlist else None)
+lone_of verb =
+    if bytes_eq verb (codes "init") then Some Init
+    else (if bytes_eq verb (codes "show") then Some Show else (if bytes_eq verb (codes "enlist") then Some Enlist else None))
 
--- What is asked for of a journal: `show`, `enlist`, `dismiss KIND ID`, `release TID` or `deny TID`.
+-- What is asked for of a journal: `init`, `show`, `enlist`, `dismiss KIND ID`, `release TID` or `deny TID`.
 abbrev pub journal_command_of : List (List ℕ) → Option Command
 journal_command_of (verb ∷ []) = lone_of verb
 journal_command_of (verb ∷ word ∷ []) = order_of verb word
@@ -46,11 +48,16 @@ command_of (verb ∷ word ∷ []) = if bytes_eq verb (codes "verify") then optio
 command_of (journal ∷ key ∷ asked) = journal_command_of asked
 command_of _ = None
 
--- which commands read the input, which mount the disk, and which change the history on it
+-- which commands read the input, which the key file, which the disk, and which may change what it holds
 abbrev pub reads_input : Option Command → Bool
 reads_input (Some (Verify secret)) = true
+reads_input (Some Init) = true
 reads_input (Some Enlist) = true
 reads_input _ = false
+
+abbrev pub reads_key : Option Command → Bool
+reads_key (Some Init) = true
+reads_key _ = false
 
 abbrev pub reads_disk : Option Command → Bool
 reads_disk (Some (Verify secret)) = false
@@ -58,6 +65,7 @@ reads_disk None = false
 reads_disk _ = true
 
 abbrev pub changes_history : Option Command → Bool
+changes_history (Some Init) = true
 changes_history (Some Enlist) = true
 changes_history (Some (Dismiss kind id)) = true
 changes_history (Some (Release tid)) = true

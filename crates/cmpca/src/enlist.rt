@@ -1,6 +1,5 @@
 //! The command that lists the credentials of a file.
-ghost use Rattle.std.specs.Prelude.{◌≡◌, ◌≢◌, ◌≤◌, ◌++◌, length, None, IfOk, IfErr, codes};
-ghost use Rattle.std.specs.Fmt.{decimal};
+ghost use Rattle.std.specs.Prelude.{◌≡◌, ◌≢◌, ◌≤◌, None, Ok, IfOk, IfErr};
 ghost use Rattle.cmp_ports.specs.Disk.{LeavesOnly};
 ghost use Rattle.cmp_ports.specs.Faults.{Rose};
 ghost use Rattle.registry.specs.Credentials.{AreListable};
@@ -8,81 +7,20 @@ ghost use Rattle.desk.specs.Due.{event_time};
 ghost use Rattle.desk.specs.Images.{RecoversWith};
 ghost use Rattle.desk.specs.Listings.{IsEnlisting};
 ghost use Rattle.cmpca.specs.Changes.{run_of};
-ghost use Rattle.cmpca.specs.Deeds.{IsFile, IsUnlisted, IsUnlistedReply, Lists, Enlists, IsFileListed, file_line, file_status, enlisted_line};
+ghost use Rattle.cmpca.specs.Deeds.{IsFile, IsUnlisted, Lists, Enlists, IsFileListed, enlisted_line};
 ghost use Rattle.cmpca.specs.Reply.{Replied, Ran, IsChangeReply};
-ghost use Rattle.std.specs.Prelude.{Ok};
 
 use crate::dismiss::{listing_line, listing_status};
 use crate::ending::{disk_of, finish, finish_unmounted, no_memory};
+use crate::file::{FILE_LIMIT, Unread, finish_unread};
 use crate::status::Status;
 use cmp_ports::{Disk, Octets, ReadError, Sink, Source, read_up_to};
 use deal_model::CredentialList;
 use desk::Desk;
 use desk_laws::at_most_one_answer;
 use itoa::Buffer;
-use registry::{CredCause, RegFault, SettingKey, read_credentials};
+use registry::{RegFault, read_credentials};
 use std::alloc::{AllocError, Global};
-
-/// The most octets of a file of credentials.
-const FILE_LIMIT: usize = 65_536;
-
-/// Why there is no list.
-#[derive(Clone, Copy)]
-enum Unlisted {
-    /// The file is at fault, or memory ran out.
-    Bad(RegFault),
-    /// The input failed.
-    ReadFault,
-}
-
-/// The line of a credential at fault.
-fn credential_line(alloc: Global, index: u32, cause: CredCause) -> Result<Octets, AllocError>
-    ensures { IfOk result (λ text. text ≡ file_line (RegFault.BadCredential index cause)) }
-{
-    let mut text = Octets::empty(alloc);
-    let mut digits = Buffer::new();
-    text.append(b"refused bad credential ")?;
-    text.append(digits.format(index).as_bytes())?;
-    text.append(b" ")?;
-    text.append(cause.word().as_bytes())?;
-    text.append(b"\n")?;
-    Ok(text)
-}
-
-/// The line of a setting at fault.
-fn setting_line(alloc: Global, key: SettingKey) -> Result<Octets, AllocError>
-    ensures { IfOk result (λ text. text ≡ file_line (RegFault.BadSetting key)) }
-{
-    let mut text = Octets::empty(alloc);
-    text.append(b"refused bad setting ")?;
-    text.append(key.word().as_bytes())?;
-    text.append(b"\n")?;
-    Ok(text)
-}
-
-/// The line of a file's fault.
-fn file_line(alloc: Global, fault: RegFault) -> Result<Octets, AllocError>
-    ensures { IfOk result (λ text. text ≡ file_line fault) }
-{
-    match fault {
-        RegFault::BadToml => Octets::copy_of(alloc, b"refused bad toml\n"),
-        RegFault::BadCount => Octets::copy_of(alloc, b"refused bad count\n"),
-        RegFault::BadCredential { index, cause } => credential_line(alloc, index, cause),
-        RegFault::BadSetting(key) => setting_line(alloc, key),
-        RegFault::NoMemory => Octets::copy_of(alloc, b"no memory\n"),
-    }
-}
-
-/// How a run ends whose file is at fault.
-fn file_status(fault: RegFault) -> Status
-    ensures status { result ≡ file_status fault }
-    ensures devices { (result ≢ Status.WriteFault) × (result ≢ Status.ReadFault) × (result ≢ Status.DiskFault) }
-{
-    match fault {
-        RegFault::NoMemory => Status::NoMemory,
-        _ => Status::Refused,
-    }
-}
 
 /// The line that tells how many were listed.
 fn enlisted_line(alloc: Global, count: usize) -> Result<Octets, AllocError>
@@ -97,36 +35,20 @@ fn enlisted_line(alloc: Global, count: usize) -> Result<Octets, AllocError>
 }
 
 /// The credentials of a file, which is read from `input` to its end, at most one octet past its limit.
-fn read_list<S: Source>(alloc: Global, input: &mut S) -> Result<CredentialList, Unlisted>
+fn read_list<S: Source>(alloc: Global, input: &mut S) -> Result<CredentialList, Unread>
     ensures read { IfOk result (λ list. IsFile (S.left input.old) (Ok list)) }
     ensures unread { IfErr result (IsUnlisted (S.left input.old)) }
     ensures listable { IfOk result AreListable }
-    ensures fault { IfErr result (λ f. f ≡ Unlisted.ReadFault → Rose (S.faults input.old) (S.faults input.new)) }
+    ensures fault { IfErr result (λ f. f ≡ Unread.ReadFault → Rose (S.faults input.old) (S.faults input.new)) }
 {
     let octets = match read_up_to(alloc, input, FILE_LIMIT) {
         Ok(octets) => octets,
-        Err(ReadError::Fault) => return Err(Unlisted::ReadFault),
-        Err(ReadError::NoMemory) => return Err(Unlisted::Bad(RegFault::NoMemory)),
+        Err(ReadError::Fault) => return Err(Unread::ReadFault),
+        Err(ReadError::NoMemory) => return Err(Unread::Bad(RegFault::NoMemory)),
     };
     match read_credentials(alloc, octets.as_slice()) {
         Ok(list) => Ok(list),
-        Err(fault) => Err(Unlisted::Bad(fault)),
-    }
-}
-
-/// Ends a run that has no list.
-fn finish_unlisted<W: Sink>(alloc: Global, unlisted: Unlisted, out: &mut W) -> Status
-    ensures replied { Replied (IsUnlistedReply unlisted) (W.written out.old) (W.written out.new) result }
-    ensures write_fault { result ≡ Status.WriteFault → Rose (W.faults out.old) (W.faults out.new) }
-    ensures read_fault { result ≡ Status.ReadFault → unlisted ≡ Unlisted.ReadFault }
-    ensures no_disk { result ≢ Status.DiskFault }
-{
-    match unlisted {
-        Unlisted::Bad(fault) => match file_line(alloc, fault) {
-            Ok(text) => finish(out, text.as_slice(), file_status(fault)),
-            Err(_) => no_memory(out),
-        },
-        Unlisted::ReadFault => finish(out, b"read fault\n", Status::ReadFault),
+        Err(fault) => Err(Unread::Bad(fault)),
     }
 }
 
@@ -191,10 +113,10 @@ pub fn run_enlist<D: Disk, S: Source, W: Sink>(
             let _disk = desk.into_disk();
             status
         }
-        Err(unlisted) => {
+        Err(unread) => {
             desk.stands_for_its_disk();
             let _disk = desk.into_disk();
-            finish_unlisted(alloc, unlisted, out)
+            finish_unread(alloc, unread, out)
         }
     }
 }

@@ -1,12 +1,14 @@
 //! The certification authority's program. `cmpca verify SECRET` reads one CMP message from standard input and tells
-//! whether its PBMAC1 protection holds; `cmpca JOURNAL KEY show` tells how the history of a journal stands, and `enlist`,
-//! `dismiss`, `release` and `deny` in the place of `show` change it by one change.
+//! whether its PBMAC1 protection holds; `cmpca JOURNAL KEY init` founds an authority in a journal, `show` in the place of `init`
+//! tells how its history stands, and `enlist`, `dismiss`, `release` and `deny` change it by one change.
 #![tactic(auto)]
 
 mod check;
 mod dismiss;
 mod ending;
 mod enlist;
+mod file;
+mod init;
 mod order;
 mod reply;
 mod show;

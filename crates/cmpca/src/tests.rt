@@ -4,6 +4,7 @@
 //! (`hashlib.pbkdf2_hmac('sha256', b'secret-1', salt, 1)` as the key, and `hmac.new(key, part, 'sha256')`, where part is
 //! the SEQUENCE of header and body).
 
+mod init;
 mod journal;
 mod show;
 
@@ -140,7 +141,7 @@ fn words_of_no_form_are_usage(rt: HostRuntime) -> Result<(), Fail> {
     ] {
         check_run(&rt, rt.alloc(), &texts, VERIFIED, Status::Usage, usage)?;
     }
-    for texts in [["journal", "key", "init"], ["journal", "key", "Show"]] {
+    for texts in [["journal", "key", "found"], ["journal", "key", "Show"]] {
         check_run(&rt, rt.alloc(), &texts, VERIFIED, Status::Usage, usage)?;
     }
     for texts in [

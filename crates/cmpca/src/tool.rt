@@ -1,16 +1,17 @@
 //! The top call: a run of the program from its words, its streams and its disk to its status.
-ghost use Rattle.std.specs.Prelude.{◌≡◌, ◌≢◌, ◌≤◌, ℕ, List, Option, Some, false, map, string_bytes};
+ghost use Rattle.std.specs.Prelude.{◌≡◌, ◌≢◌, ◌⊎◌, ◌≤◌, ℕ, List, Option, Some, false, map, string_bytes};
 ghost use Rattle.cmp_ports.specs.Coming.{Gives};
 ghost use Rattle.cmp_ports.specs.Disk.{Among, LeavesOnly};
 ghost use Rattle.cmp_ports.specs.Faults.{Rose};
-ghost use Rattle.cmpca.specs.Words.{command_of, reads_input, reads_disk, changes_history};
+ghost use Rattle.cmpca.specs.Words.{command_of, reads_input, reads_key, reads_disk, changes_history};
 ghost use Rattle.cmpca.specs.Changes.{run_of};
-ghost use Rattle.cmpca.specs.Reply.{IsVerifyReply, IsShowReply, IsReply, Replied, Ran};
+ghost use Rattle.cmpca.specs.Reply.{IsVerifyReply, IsShowReply, IsReply, Replied, Ran, RanKeyed};
 
 use crate::check::check;
 use crate::dismiss::run_dismiss;
 use crate::ending::{finish, no_memory};
 use crate::enlist::run_enlist;
+use crate::init::run_init;
 use crate::order::run_order;
 use crate::show::show;
 use crate::status::Status;
@@ -60,9 +61,10 @@ fn run_show<D: Disk, W: Sink>(alloc: Global, disk: &mut D, out: &mut W) -> Statu
     }
 }
 
-/// Runs the program on its words. `verify` reads one message from `input`, and `enlist` a file of credentials; the commands on a
-/// journal mount the history that the disk holds, and those that change it read the clock once, before all else. What the words
-/// ask for is written to `out`, or why it isn't done or can't be told.
+/// Runs the program on its words. `verify` reads one message from `input`, `enlist` a file of credentials and `init` one of settings;
+/// `init` reads the key file from `key` besides, and founds a history on the disk. The other commands on a journal mount the history
+/// that the disk holds. Those that change it read the clock once, before all else, as `init` does. What the words ask for is written
+/// to `out`, or why it isn't done or can't be told.
 pub fn run_tool<D: Disk, S: Source, K: Source, C: Clock, E: Entropy, W: Sink>(
     alloc: Global,
     words: &[String],
@@ -73,12 +75,13 @@ pub fn run_tool<D: Disk, S: Source, K: Source, C: Clock, E: Entropy, W: Sink>(
     entropy: &mut E,
     out: &mut W,
 ) -> Status
-    // What is written, the status and the history after are the reply to the words, the input, the reading and the history before.
-    ensures ran { Ran (S.left input.old) (IsReply (command_of (map string_bytes words.now)) (Gives (C.readings clock.old) (C.readings clock.new)) (run_of D.content D.images D.moment D.left_since disk.old disk.new)) (W.written out.old) (W.written out.new) result }
+    // What is written, the status and the history after are the reply to the words, the input, the key file, the reading and the
+    // history before.
+    ensures ran { RanKeyed (S.left input.old) (K.left key.old) (IsReply (command_of (map string_bytes words.now)) (Gives (C.readings clock.old) (C.readings clock.new)) (run_of D.content D.images D.moment D.left_since disk.old disk.new)) (W.written out.old) (W.written out.new) result }
 
-    // What the command doesn't read is as before: its faults, and what it still gives. No command reads these two.
-    ensures key { key.new ≡ key.old }
+    // What the command doesn't read is as before: its faults, and what it still gives. No command reads the entropy.
     ensures entropy { entropy.new ≡ entropy.old }
+    ensures key { reads_key (command_of (map string_bytes words.now)) ≡ false → key.new ≡ key.old }
     ensures clock { changes_history (command_of (map string_bytes words.now)) ≡ false → clock.new ≡ clock.old }
     ensures unread { reads_input (command_of (map string_bytes words.now)) ≡ false → input.new ≡ input.old }
     ensures unmounted { reads_disk (command_of (map string_bytes words.now)) ≡ false → disk.new ≡ disk.old }
@@ -89,8 +92,8 @@ pub fn run_tool<D: Disk, S: Source, K: Source, C: Clock, E: Entropy, W: Sink>(
     ensures crash { changes_history (command_of (map string_bytes words.now)) ≡ false → Among (D.images disk.old) (D.images disk.new) }
     ensures moments { changes_history (command_of (map string_bytes words.now)) ≡ false → LeavesOnly D.moment D.left_since disk.old disk.new (D.images disk.old) }
 
-    // The faults of the streams and of the disk alone give these.
-    ensures read_fault { result ≡ Status.ReadFault → Rose (S.faults input.old) (S.faults input.new) }
+    // The faults of the streams, of the key file and of the disk alone give these.
+    ensures read_fault { result ≡ Status.ReadFault → Rose (S.faults input.old) (S.faults input.new) ⊎ Rose (K.faults key.old) (K.faults key.new) }
     ensures write_fault { result ≡ Status.WriteFault → Rose (W.faults out.old) (W.faults out.new) }
     ensures disk_fault { result ≡ Status.DiskFault → Rose (D.faults disk.old) (D.faults disk.new) }
 {
@@ -99,6 +102,7 @@ pub fn run_tool<D: Disk, S: Source, K: Source, C: Clock, E: Entropy, W: Sink>(
     };
     match &command {
         Command::Verify { secret } => run_verify(alloc, secret.as_slice(), input, out),
+        Command::Init => run_init(alloc, key, input, disk, clock.now(), out),
         Command::Show => run_show(alloc, disk, out),
         Command::Enlist => run_enlist(alloc, input, disk, clock.now(), out),
         Command::Dismiss { kind, id } => run_dismiss(alloc, *kind, id, disk, clock.now(), out),

@@ -26,6 +26,8 @@ pub enum Command {
         /// 8 to 64 octets.
         secret: Short,
     },
+    /// To found a journal with the settings of a file.
+    Init,
     /// To tell how the history of a journal stands.
     Show,
     /// To list the credentials of a file.
@@ -87,6 +89,9 @@ fn read_journal_command(asked: &[String]) -> Option<Command>
 fn read_lone(verb: &str) -> Option<Command>
     ensures { result ≡ lone_of verb.now }
 {
+    if verb == "init" {
+        return Some(Command::Init);
+    }
     if verb == "show" {
         return Some(Command::Show);
     }

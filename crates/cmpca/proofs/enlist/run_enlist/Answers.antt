@@ -37,7 +37,7 @@ returns-in-Ok-read_list-clause-ran g c =
 
 pub returns-in-Err-read_list-clause-ran : goal.returns-in-Err-read_list-clause-ran
 returns-in-Err-read_list-clause-ran g c =
-    let f = read_of (g.S.Source.left c.args.input.now) c.in-Err-read_list.unlisted c.in-Err-read_list.ensures.unread in
+    let f = read_of (g.S.Source.left c.args.input.now) c.in-Err-read_list.unread c.in-Err-read_list.ensures.unread in
     let s = c.in-Ok.desk in
     let h = s.history.items in
     let now = λ (r : MutBor g.row.D.Denot). r.now in
@@ -49,5 +49,5 @@ returns-in-Err-read_list-clause-ran g c =
           (search rules) c.in-Ok.ensures.told c.in-Ok.ensures.moments
           (started _ _ s.disk (RecoversWith h (IsFileListed f.file c.args.now h)) (λ image left. idle h s.doubt (IsFileListed f.file c.args.now h) image c.in-Ok.ensures.clear (c.stands_for_its_disk-in-Err-read_list.ensures.images image (g.met.D.Disk.only_now s.disk.now image left))))
           c.stands_for_its_disk-in-Err-read_list.ensures.images c.stands_for_its_disk-in-Err-read_list.ensures.lawful
-          (reformed _ _ _ _ _ (λ reply text told. f.replies c.args.now h reply text s.doubt c.in-Ok.ensures.clear told) c.finish_unlisted.ensures.replied);
+          (reformed _ _ _ _ _ (λ reply text told. f.replies c.args.now h reply text s.doubt c.in-Ok.ensures.clear told) c.finish_unread.ensures.replied);
     }
