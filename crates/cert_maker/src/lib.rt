@@ -7,6 +7,8 @@ mod extensions;
 mod granted;
 mod plans;
 mod tbs;
+#[cfg(test)]
+mod tests;
 
 pub use certificate::{cert_of, cert_of_plan, tbs_of};
 pub use plans::{reply_plan, root_plan};
