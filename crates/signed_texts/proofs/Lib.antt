@@ -1,0 +1,4 @@
+mod Lists
+mod Texts
+mod Sent
+mod Worlds
