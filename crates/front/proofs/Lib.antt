@@ -1,0 +1,5 @@
+mod Decided
+mod Letters
+mod Joins
+mod Rulings
+mod Replies

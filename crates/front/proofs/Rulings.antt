@@ -1,0 +1,239 @@
+-- How a message that was checked is decided, whatever letter its octets are.
+use Rattle.std.proofs.Common.{◌≡◌, ℕ, ◌≤◌, ◌⊎◌, Bool, true, false, List, [], ◌∷◌, ◌++◌, length, Option, Some, None, refl, sym, ap, subst, ◌∙◌, inl, inr, arith}
+use Rattle.std.specs.Prelude.{is_some}
+use Rattle.std.specs.Str.{bytes_eq}
+use Rattle.std.proofs.lemmas.List.{append-nil}
+use Rattle.std.proofs.lemmas.Option.{none-some}
+use Rattle.sha2.specs.Sha256.{sha256}
+use Rattle.cmp_ports.specs.Faults.{Rose}
+use Rattle.deal_changes.specs.declared.change.Change.{Change}
+use Rattle.deal_model.specs.declared.asking.Checked.{Checked}
+use Rattle.deal_model.specs.declared.asking.Job.{Job}
+use Rattle.deal_model.specs.declared.asking.Job.TheVariants.{Repeat, Enrol, Confirm, Poll, Withdraw}
+use Rattle.deal_model.specs.Views.{History}
+use Rattle.deal_table.proofs.Sends.{left_answers}
+use Rattle.deal_table.proofs.Stays.{grant_stays}
+use Rattle.deal_table.specs.Carry.{FitsChecked, Carries, untold, IsTold, HashIsTold, is_confirm_job, left}
+use Rattle.deal_table.specs.History.{Receipted, Begins, grant_receipt}
+use Rattle.deal_table.specs.Message.{Body, Confirmation, Enrols, Confirms, Polls, Withdraws, Nests, OtherBody, Letter, subject_of}
+use Rattle.deal_table.specs.Table.{Makes}
+use Rattle.desk.specs.declared.clerk.Clerk.{Ghosts}
+use Rattle.desk.specs.declared.verdict.Verdict.{Verdict}
+use Rattle.desk.specs.declared.verdict.Verdict.TheVariants.{Done, Again, Refused, Stale, DiskFault, NoMemory}
+use Rattle.desk.specs.Clerks.{decided_place, IsDecidedAlone}
+use Rattle.desk.specs.Verdicts.{Decides, LeftMakes}
+use Rattle.intake.specs.Fit.{IsCompared, ComparesHash}
+use Rattle.intake.specs.Letter.{IsLetter}
+use Rattle.reply_maker.specs.Replies.{Replier, certificate_hash}
+use Rattle.front.specs.Answers.{ForLetter, addressed, IsOwn}
+use Rattle.front.specs.Clerks.{clerked, IsAlone, Goes}
+use Rattle.front.specs.Courses.{IsAsked, IsDecided, IsCarried, told_by, told_of, IsTellable, is_stale, IsRuled}
+use Rattle.front.proofs.Decided.{Known, none_known}
+use Rattle.front.proofs.Joins.{begins_itself, begins_on, asked_goes, goes_on, goes_as}
+use Rattle.front.proofs.Letters.{by_letter}
+
+pub true_known : (b : Bool) → Known (b ≡ true)
+true_known true = inl refl
+true_known false = inr (λ e. cc e)
+
+false_known : (b : Bool) → Known (b ≡ false)
+false_known false = inl refl
+false_known true = inr (λ e. cc e)
+
+-- ---- what is told of certHash
+
+-- what holds of what was checked, and with certHash told too, holds of it once it is told as far as can be
+told_so : (P : Checked → Type 0) (k : Replier) (c : Checked) (job : Job) (told : Option Bool) (found : Option Receipted) → P c
+    → ((id_ok : Bool) (hash : List ℕ) (alg : Bool) (count status : ℕ) (r : Receipted) → job ≡ Confirm id_ok hash alg count status → told ≡ None → found ≡ Some r → P (record c { hash_ok = Some (bytes_eq hash (certificate_hash k r)) }))
+    → P (told_by k c job told found)
+told_so P k c (Confirm id_ok hash alg count status) None (Some r) same new = new id_ok hash alg count status r refl refl refl
+told_so P k c (Confirm id_ok hash alg count status) None None same new = same
+told_so P k c (Confirm id_ok hash alg count status) (Some told) found same new = same
+told_so P k c Repeat told found same new = same
+told_so P k c (Enrol body wish old) told found same new = same
+told_so P k c (Poll ids_ok) told found same new = same
+told_so P k c (Withdraw serial reason) told found same new = same
+
+-- what is told stays true
+told_on : (body : Body) (told : Option Bool) (tid : List ℕ) (a b : History) → Begins a b → IsTold body told tid a → IsTold body told tid b
+told_on (Confirms f) (Some told) tid a b (more, e) (inl all) = inl all
+told_on (Confirms f) (Some told) tid a b (more, e) (inr found) = inr (found.0, subst (λ (h : History). grant_receipt h tid ≡ Some found.0) (sym e) (grant_stays a more tid found.0 found.1), found.2)
+told_on (Confirms f) None tid a b begins told = tt
+told_on (Enrols e) x tid a b begins told = tt
+told_on (Polls p) x tid a b begins told = tt
+told_on (Withdraws w) x tid a b begins told = tt
+told_on (Nests count) x tid a b begins told = tt
+told_on OtherBody x tid a b begins told = tt
+
+-- certHash was held against the certificate of the Grant
+told_now : (k : Replier) (h : History) (tid : List ℕ) (body : Body) (job : Job) (told : Option Bool) (id_ok : Bool) (hash : List ℕ) (alg : Bool) (count status : ℕ) (r : Receipted)
+    → IsCompared (certificate_hash k) body job told → job ≡ Confirm id_ok hash alg count status → told ≡ None → grant_receipt h tid ≡ Some r
+    → IsTold body (Some (bytes_eq hash (certificate_hash k r))) tid h
+told_now k h tid body job told id_ok hash alg count status r compared e n found =
+    let f = subst (λ (j : Job). IsCompared (certificate_hash k) body j None) e (subst (IsCompared (certificate_hash k) body job) n compared) in
+    subst (λ (x : Body). IsTold x (Some (bytes_eq hash (certificate_hash k r))) tid h) (sym f.1) (inr (r, found, f.2 r))
+
+-- what a history tells of certHash is carried too
+told_carried : (k : Replier) (b : List ℕ) (seen h : History) (c : Checked) → Begins seen h → IsCarried k b seen c → IsCarried k b h (told_of k h c)
+told_carried k b seen h c begins is = record {
+  looked = is.looked;
+  begun = begins_on is.looked seen h is.begun begins;
+  carries = λ l letter. told_so (λ (x : Checked). Carries l (untold x) is.looked) k c c.job c.hash_ok (grant_receipt h c.ask.tid) (is.carries l letter) (λ id_ok hash alg count status r e n found. is.carries l letter);
+  told = λ l letter. told_so (λ (x : Checked). HashIsTold l x h) k c c.job c.hash_ok (grant_receipt h c.ask.tid) (told_on (subject_of l).body c.hash_ok c.ask.tid seen h begins (is.told l letter))
+      (λ id_ok hash alg count status r e n found. told_now k h c.ask.tid (subject_of l).body c.job c.hash_ok id_ok hash alg count status r (is.compares (certificate_hash k) l letter) e n found);
+  compares = told_so (ComparesHash b) k c c.job c.hash_ok (grant_receipt h c.ask.tid) is.compares
+      (λ id_ok hash alg count status r e n found. λ hashes l letter. subst (λ (j : Job). IsCompared hashes (subject_of l).body j (Some (bytes_eq hash (certificate_hash k r)))) (sym e) tt);
+  fits = told_fits k h c is.fits;
+}
+  where
+    told_fits : (k : Replier) (h : History) (c : Checked) → FitsChecked c → FitsChecked (told_of k h c)
+    told_fits k h c f = told_so FitsChecked k c c.job c.hash_ok (grant_receipt h c.ask.tid) f (λ id_ok hash alg count status r e n found. record { digest = f.digest; tid = f.tid; sender = f.sender; nonce = f.nonce; job = f.job })
+
+-- certHash that can be told is told
+told_open : (k : Replier) (c : Checked) (job : Job) (told : Option Bool) (found : Option Receipted) → told ≡ c.hash_ok → is_confirm_job job ≡ true → is_some found ≡ true → (told_by k c job told found).hash_ok ≡ None → ⊥
+told_open k c (Confirm id_ok hash alg count status) None (Some r) same is some none = none-some (bytes_eq hash (certificate_hash k r)) (sym none)
+told_open k c (Confirm id_ok hash alg count status) None None same is some none = let e : false ≡ true = some in cc
+told_open k c (Confirm id_ok hash alg count status) (Some t) found same is some none = none-some t (sym none ∙ sym same)
+told_open k c Repeat told found same is some none = let e : false ≡ true = is in cc
+told_open k c (Enrol body wish old) told found same is some none = let e : false ≡ true = is in cc
+told_open k c (Poll ids_ok) told found same is some none = let e : false ≡ true = is in cc
+told_open k c (Withdraw serial reason) told found same is some none = let e : false ≡ true = is in cc
+
+some_stays : (h more : History) (tid : List ℕ) (found : Option Receipted) → grant_receipt h tid ≡ found → is_some found ≡ true → is_some (grant_receipt (h ++ more) tid) ≡ true
+some_stays h more tid (Some r) e some = ap is_some (grant_stays h more tid r e)
+some_stays h more tid None e some = absurd (let f : false ≡ true = some in cc)
+
+some_on : (a b : History) (tid : List ℕ) → Begins a b → is_some (grant_receipt a tid) ≡ true → is_some (grant_receipt b tid) ≡ true
+some_on a b tid (more, e) some = subst (λ (h : History). is_some (grant_receipt h tid) ≡ true) (sym e) (some_stays a more tid (grant_receipt a tid) refl some)
+
+-- ---- decisions
+
+-- what a clerk decides that has seen more, it decides for whoever has seen less
+pub decides_since : (l : Letter) (c : Checked) (old mid new : History) (now : ℕ) (w : List ℕ) (v : Verdict) → Begins old mid → Decides l c mid new now w v → Decides l c old new now w v
+decides_since l c old mid new now w (Done r) begins d = record { before = d.before; begun = begins_on old mid d.before begins d.begun; decided = d.decided; made = d.made }
+decides_since l c old mid new now w (Again r place time) begins d = d
+decides_since l c old mid new now w (Refused fail place time is_guarded to_outer) begins d = d
+decides_since l c old mid new now w (Stale place) begins d = d
+decides_since l c old mid new now w DiskFault begins d = d
+decides_since l c old mid new now w NoMemory begins d = d
+
+pub alone_since : (old mid new : History) (v : Verdict) → mid ≡ old → IsDecidedAlone mid new v → IsDecidedAlone old new v
+alone_since old mid new (Done r) e d = subst (λ (h : History). new ≡ h ++ r.change ∷ []) e d
+alone_since old mid new (Again r place time) e d = d ∙ e
+alone_since old mid new (Refused fail place time is_guarded to_outer) e d = d ∙ e
+alone_since old mid new (Stale place) e d = d ∙ e
+alone_since old mid new DiskFault e d = d ∙ e
+alone_since old mid new NoMemory e d = d ∙ e
+
+-- a verdict that certHash has to be compared says so of what can be told
+stale_open : (k : Replier) (b : List ℕ) (old new : History) (now : ℕ) (w : List ℕ) (c : Checked) (v : Verdict) → ForLetter k b (λ l. Decides l c old new now w v) → is_stale v ≡ true → IsTellable new c
+stale_open k b old new now w c (Stale place) decides is = record {
+  confirms = by_letter (certificate_hash k) b (true_known _) (λ l letter. (decides l letter).1.confirms);
+  stands = by_letter (certificate_hash k) b (true_known _) (λ l letter. ap is_some (decides l letter).1.stands);
+}
+stale_open k b old new now w c (Done r) decides is = absurd (let e : false ≡ true = is in cc)
+stale_open k b old new now w c (Again r place time) decides is = absurd (let e : false ≡ true = is in cc)
+stale_open k b old new now w c (Refused fail place time is_guarded to_outer) decides is = absurd (let e : false ≡ true = is in cc)
+stale_open k b old new now w c DiskFault decides is = absurd (let e : false ≡ true = is in cc)
+stale_open k b old new now w c NoMemory decides is = absurd (let e : false ≡ true = is in cc)
+
+never_stale : (k : Replier) (b : List ℕ) (old new : History) (now : ℕ) (w : List ℕ) (c : Checked) (v : Verdict) → ForLetter k b (λ l. Decides l c old new now w v) → (c.hash_ok ≡ None → ⊥) → is_stale v ≡ false
+never_stale k b old new now w c (Stale place) decides told = by_letter (certificate_hash k) b (false_known _) (λ l letter. absurd (told (decides l letter).1.untold))
+never_stale k b old new now w c (Done r) decides told = refl
+never_stale k b old new now w c (Again r place time) decides told = refl
+never_stale k b old new now w c (Refused fail place time is_guarded to_outer) decides told = refl
+never_stale k b old new now w c DiskFault decides told = refl
+never_stale k b old new now w c NoMemory decides told = refl
+
+-- what is left of what was checked makes the message's own change
+left_own : (k : Replier) (b : List ℕ) (h : History) (now : ℕ) (w : List ℕ) (c : Checked) → IsCarried k b h c → (x : Change) → LeftMakes h c now w x → IsOwn k b h now w x
+left_own k b h now w c is x makes = λ l letter. ap (addressed l) (left_answers l c is.looked h h now w (Makes x) (is.carries l letter) is.begun (is.told l letter) (begins_itself h) makes tt)
+
+module _ {K : Type 0} (g : Ghosts K) (k : Replier) (b : List ℕ) where
+  -- decided, after it was asked
+  decided_goes : (old mid new : K) (now : ℕ) (w : List ℕ) (c : Checked) (v : Verdict) → IsAsked g old mid → IsCarried k b (g.seen mid) c → IsDecided g mid new c now w v → Goes g old new (IsOwn k b (g.seen old) now w)
+  decided_goes old mid new now w c v asked is d = goes_on g old mid new (IsOwn k b (g.seen old) now w)
+      (asked_goes g old mid (IsOwn k b (g.seen old) now w) asked) asked.alone
+      (goes_as g mid new (LeftMakes (g.seen mid) c now w) (IsOwn k b (g.seen old) now w) (record { grown = d.grown; lawful = d.lawful; held = d.held; later = d.later; doubt = λ alone. d.doubt; moments = λ alone. d.moments })
+      (λ alone x makes. subst (λ (h : History). IsOwn k b h now w x) (asked.alone (ap (λ h. h.table) (sym asked.held) ∙ alone)) (left_own k b (g.seen mid) now w c is x makes)))
+
+  pub ruled : (old mid new : K) (now : ℕ) (w : List ℕ) (c : Checked) (v : Verdict) → IsAsked g old mid → IsCarried k b (g.seen old) c → IsDecided g mid new (told_of k (g.seen mid) c) now w v → IsRuled g k b old new now w (told_of k (g.seen mid) c) v
+  ruled old mid new now w c v asked is d = record {
+    goes = decided_goes old mid new now w t v asked at_mid d;
+    carried = record {
+      looked = at_mid.looked;
+      begun = begins_on at_mid.looked (g.seen mid) (g.seen new) at_mid.begun d.grown;
+      carries = at_mid.carries;
+      told = λ l letter. told_on (subject_of l).body t.hash_ok t.ask.tid (g.seen mid) (g.seen new) d.grown (at_mid.told l letter);
+      compares = at_mid.compares;
+      fits = at_mid.fits;
+    };
+    decides = λ l letter. decides_since l t (g.seen old) (g.seen mid) (g.seen new) now w v asked.grown (by_mid l letter);
+    timely = d.timely;
+    mine = d.mine ∙ ap (λ (x : List ℕ). x ++ decided_place v) asked.mine;
+    fault = λ e. subst (λ (n : ℕ). Rose n (g.faults new)) asked.faults (d.fault e);
+    alone = λ alone. alone_since (g.seen old) (g.seen mid) (g.seen new) v (asked.alone alone) (d.alone (ap (λ h. h.table) asked.held ∙ alone));
+    stale = stale_open k b (g.seen mid) (g.seen new) now w t v by_mid;
+  }
+    where
+      t : Checked
+      t = told_of k (g.seen mid) c
+
+      at_mid : IsCarried k b (g.seen mid) t
+      at_mid = told_carried k b (g.seen old) (g.seen mid) c asked.grown is
+
+      by_mid : ForLetter k b (λ l. Decides l t (g.seen mid) (g.seen new) now w v)
+      by_mid = λ l letter. d.decides l at_mid.looked at_mid.begun (at_mid.carries l letter) (at_mid.told l letter)
+
+  -- where certHash can be told, it is
+  pub ruled_told : (old mid new : K) (now : ℕ) (w : List ℕ) (c : Checked) (v : Verdict) → IsAsked g old mid → IsCarried k b (g.seen old) c → IsDecided g mid new (told_of k (g.seen mid) c) now w v → IsTellable (g.seen old) c → is_stale v ≡ false
+  ruled_told old mid new now w c v asked is d can =
+      let is_mid = told_carried k b (g.seen old) (g.seen mid) c asked.grown is in
+      never_stale k b (g.seen mid) (g.seen new) now w (told_of k (g.seen mid) c) v (λ l letter. d.decides l is_mid.looked is_mid.begun (is_mid.carries l letter) (is_mid.told l letter))
+      (told_open k c c.job c.hash_ok (grant_receipt (g.seen mid) c.ask.tid) refl can.confirms (some_on (g.seen old) (g.seen mid) c.ask.tid asked.grown can.stands))
+
+  pub ruled_by : (old mid new : K) (now : ℕ) (w : List ℕ) (c d : Checked) (v : Verdict) → IsAsked g old mid → d ≡ told_of k (g.seen mid) c → IsDecided g mid new d now w v → IsCarried k b (g.seen old) c → IsRuled g k b old new now w d v
+  ruled_by old mid new now w c d v asked e decided is = subst (λ (x : Checked). IsRuled g k b old new now w x v) (sym e) (ruled old mid new now w c v asked is (subst (λ (x : Checked). IsDecided g mid new x now w v) e decided))
+
+  pub told_by_then : (old mid new : K) (now : ℕ) (w : List ℕ) (c d : Checked) (v : Verdict) → IsAsked g old mid → d ≡ told_of k (g.seen mid) c → IsDecided g mid new d now w v → IsCarried k b (g.seen old) c → IsTellable (g.seen old) c → is_stale v ≡ false
+  told_by_then old mid new now w c d v asked e decided is can = ruled_told old mid new now w c v asked is (subst (λ (x : Checked). IsDecided g mid new x now w v) e decided) can
+
+  -- memory ran out before it was decided
+  pub ruled_spent : (old new : K) (now : ℕ) (w : List ℕ) (c : Checked) → IsAsked g old new → IsCarried k b (g.seen old) c → IsRuled g k b old new now w c NoMemory
+  ruled_spent old new now w c asked is = record {
+    goes = asked_goes g old new (IsOwn k b (g.seen old) now w) asked;
+    carried = record {
+      looked = is.looked;
+      begun = begins_on is.looked (g.seen old) (g.seen new) is.begun asked.grown;
+      carries = is.carries;
+      told = λ l letter. told_on (subject_of l).body c.hash_ok c.ask.tid (g.seen old) (g.seen new) asked.grown (is.told l letter);
+      compares = is.compares;
+      fits = is.fits;
+    };
+    decides = λ l letter. tt;
+    timely = tt;
+    mine = asked.mine ∙ sym (append-nil (g.mine old));
+    fault = λ e. absurd (cc e);
+    alone = asked.alone;
+    stale = λ e. absurd (let f : false ≡ true = e in cc);
+  }
+
+  pub spent_by : (old new : K) (now : ℕ) (w : List ℕ) (c d : Checked) → IsAsked g old new → d ≡ c → IsCarried k b (g.seen old) c → IsRuled g k b old new now w d NoMemory
+  spent_by old new now w c d asked e is = subst (λ (x : Checked). IsRuled g k b old new now w x NoMemory) (sym e) (ruled_spent old new now w c asked is)
+
+  rose_since : (a m n : ℕ) → a ≤ m → Rose m n → Rose a n
+  rose_since a m n le rose = omega arith
+
+  -- decided once more, where certHash had to be compared first
+  pub ruled_again : (old mid new : K) (now : ℕ) (w : List ℕ) (c d : Checked) (place : ℕ) (v : Verdict) → IsRuled g k b old mid now w c (Stale place) → IsRuled g k b mid new now w d v → IsRuled g k b old new now w d v
+  ruled_again old mid new now w c d place v first second = record {
+    goes = goes_on g old mid new (IsOwn k b (g.seen old) now w) first.goes first.alone
+        (goes_as g mid new (IsOwn k b (g.seen mid) now w) (IsOwn k b (g.seen old) now w) second.goes (λ alone x own. subst (λ (h : History). IsOwn k b h now w x) (first.alone (ap (λ h. h.table) (sym first.goes.held) ∙ alone)) own));
+    carried = second.carried;
+    decides = λ l letter. decides_since l d (g.seen old) (g.seen mid) (g.seen new) now w v first.goes.grown (second.decides l letter);
+    timely = second.timely;
+    mine = second.mine ∙ ap (λ (x : List ℕ). x ++ decided_place v) (first.mine ∙ append-nil (g.mine old));
+    fault = λ e. rose_since (g.faults old) (g.faults mid) (g.faults new) first.goes.later (second.fault e);
+    alone = λ alone. alone_since (g.seen old) (g.seen mid) (g.seen new) v (first.alone alone) (second.alone (ap (λ h. h.table) first.goes.held ∙ alone));
+    stale = second.stale;
+  }

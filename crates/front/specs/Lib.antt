@@ -1,0 +1,5 @@
+pub mod Answers
+pub mod Clerks
+pub mod Ends
+pub mod Fronts
+pub mod Courses
