@@ -65,6 +65,18 @@ impl<'k, K: Clerk, C: Clock, E: Entropy, G: Gate> Front<'k, K, C, E, G> {
     }
 }
 
+impl<'k, K: Clerk, C: Clock, E: Entropy, G: Gate> Front<'k, K, C, E, G> {
+    /// What the front was made over: its clerk, its clock, its entropy and its gate. Who lent it a clock learns by this that it has
+    /// its own back.
+    pub fn into_parts(self) -> (K, C, E, G)
+        ensures clerk { result.0 ≡ self.entry.clerk }
+        ensures clock { result.1 ≡ self.entry.clock }
+        ensures entropy { result.2 ≡ self.entry.entropy }
+    {
+        (self.clerk, self.clock, self.entropy, self.gate)
+    }
+}
+
 impl<'k, K: Clerk, C: Clock + Drop, E: Entropy + Drop, G: Gate + Drop> Front<'k, K, C, E, G> {
     /// The clerk.
     pub fn into_clerk(self) -> K
