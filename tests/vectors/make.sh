@@ -24,6 +24,7 @@ python3 "$here/near_certs.py" >"$out/near_certs.txt"
 python3 "$here/neighbours.py" >"$out/neighbours.txt"
 python3 "$here/ask_vectors.py" >"$out/asks.txt"
 python3 "$here/check_vectors.py" >"$out/checks.txt"
+python3 "$here/key_vectors.py" >"$out/keys.txt"
 python3 "$here/wish_vectors.py" >"$out/wishes.txt"
 if command -v openssl >/dev/null; then
     "$here/openssl_certs.sh" >"$out/openssl_certs.txt"
