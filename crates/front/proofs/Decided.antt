@@ -1,5 +1,5 @@
 -- Whether a protection verifies is settled by computing. So no clause needs to say that it does or doesn't.
-use Rattle.std.proofs.Common.{◌≡◌, ℕ, zero, suc, ◌+◌, ◌*◌, ◌^◌, ◌<◌, ◌≤◌, ◌⊎◌, Bool, true, false, List, length, take, drop, Option, Some, None, refl, sym, ap, subst, ◌∙◌, inl, inr, ⊎_elim, arith}
+use Rattle.std.proofs.Common.{◌≡◌, ℕ, zero, suc, ◌+◌, ◌*◌, ◌^◌, ◌≤◌, ◌⊎◌, Bool, true, false, List, length, take, drop, Option, Some, None, refl, sym, ap, subst, ◌∙◌, inl, inr, ⊎_elim, arith}
 use Rattle.std.specs.Prelude.{◌==◌, MatchOption}
 use Rattle.std.specs.Bool.{Decides}
 use Rattle.std.specs.Str.{bytes_eq}
@@ -7,9 +7,9 @@ use Rattle.std.proofs.lemmas.Bool.Decides.{Decides-eqb, leb_tells}
 use Rattle.std.proofs.lemmas.Slice.Eq.{bytes_eq-Decides}
 use Rattle.std.proofs.lemmas.Option.{none-some, same_Some}
 use Rattle.lms_params.specs.Parameters.{OtsRow, ots_row, tree_height}
-use Rattle.lms_tree.specs.Verifies.{u32_at, root_of, HasForm, LmsOkIn, LmsOkFor, LmsOk}
+use Rattle.lms_tree.specs.Verifies.{u32_at, HasForm, LmsOkIn, LmsOkFor, LmsOk}
 use Rattle.asn_types.specs.Algorithm.{Algorithm}
-use Rattle.pbmac.specs.Mac.{mac_of, MacOk}
+use Rattle.pbmac.specs.Mac.{mac_of}
 use Rattle.pbmac.specs.Params.{params_at}
 use Rattle.pbmac.specs.declared.params.MacParams.{MacParams}
 use Rattle.pbmac_grammar.specs.Pbmac1.{IsPbmac1}

@@ -1,9 +1,8 @@
 -- How the calls of a clerk follow one another.
-use Rattle.std.proofs.Common.{◌≡◌, ℕ, ◌≤◌, ◌⊎◌, List, [], ◌∷◌, ◌++◌, length, Option, Some, None, refl, sym, ap, subst, ◌∙◌, inl, inr, ⊎_elim, append_assoc, arith}
+use Rattle.std.proofs.Common.{◌≡◌, ℕ, List, [], ◌++◌, Option, Some, None, refl, sym, ap, subst, ◌∙◌, inl, inr, ⊎_elim, append_assoc, arith}
 use Rattle.std.specs.Prelude.{IfSome}
 use Rattle.std.proofs.lemmas.List.{append-nil}
-use Rattle.std.proofs.lemmas.Option.{same_Some}
-use Rattle.cmp_ports.specs.Disk.{LeavesOnly, Every}
+use Rattle.cmp_ports.specs.Disk.{Every}
 use Rattle.cmp_ports.specs.Moments.{started, weaker, joins}
 use Rattle.deal_changes.specs.declared.change.Change.{Change}
 use Rattle.deal_changes.specs.declared.change.Settings.{Settings}
@@ -12,7 +11,7 @@ use Rattle.deal_table.proofs.Stays.{settings_stay}
 use Rattle.deal_table.specs.History.{Begins, IsFounded}
 use Rattle.desk.specs.declared.clerk.Clerk.{Ghosts}
 use Rattle.desk.specs.Images.{RecoversWith, IsDoubt, DoubtOr}
-use Rattle.front.specs.Clerks.{Clerked, clerked, IsAlone, IsLawful, Goes}
+use Rattle.front.specs.Clerks.{clerked, IsAlone, IsLawful, Goes}
 use Rattle.front.specs.Courses.{IsAsked}
 use Rattle.front.specs.Fronts.{HasSettings}
 

@@ -1,16 +1,15 @@
 -- Octets are some letter, so that what each letter settles by computing is so.
 use Rattle.std.proofs.Common.{◌≡◌, ℕ, ◌≤◌, Bool, true, false, cond, List, [], length, Option, Some, None, refl, sym, ap, subst, inl, inr, arith}
-use Rattle.std.specs.Prelude.{IsTrue, ◌↔◌, unwrap_or, is_some}
+use Rattle.std.specs.Prelude.{IsTrue, ◌↔◌}
 use Rattle.deal_changes.specs.declared.change.Kind.{Kind}
-use Rattle.deal_changes.specs.declared.change.Kind.TheVariants.{Mac, Lms}
 use Rattle.deal_model.specs.declared.asking.Echo.{Echo}
-use Rattle.pki_message.specs.Message.{MessageForm, IsMessage}
+use Rattle.pki_message.specs.Message.{MessageForm}
 use Rattle.deal_table.specs.History.{Receipted}
-use Rattle.deal_table.specs.Message.{Facts, Letter, is_nested, Header, subject_of, echo_of, echo_to, echoed, Echoed}
+use Rattle.deal_table.specs.Message.{Facts, Letter, is_nested, subject_of, echo_of, echoed, Echoed}
 use Rattle.intake.specs.Headers.{kind_of}
-use Rattle.intake.specs.Holds.{key_by, VerifiesAs, Verifies, IsProven}
+use Rattle.intake.specs.Holds.{key_by, VerifiesAs, Verifies}
 use Rattle.intake.specs.Intake.{IsStopped, IsRequest}
-use Rattle.intake.specs.Letter.{IsReading, Checks, AreChecked, AreChecks, facts_of, inside_of, IsLetter}
+use Rattle.intake.specs.Letter.{IsReading, Checks, AreChecks, facts_of, inside_of, IsLetter}
 use Rattle.intake.proofs.Limits.{head_within}
 use Rattle.intake.specs.declared.request.Request.{Request}
 use Rattle.cmp_ports.specs.declared.fail_info.FailInfo.{FailInfo}

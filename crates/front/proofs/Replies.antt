@@ -1,14 +1,13 @@
 -- What a reply says of the history in which its message was decided.
-use Rattle.std.proofs.Common.{◌≡◌, ℕ, zero, suc, ◌+◌, ◌<◌, ◌≤◌, ◌⊎◌, Bool, true, false, cond, List, [], ◌∷◌, ◌++◌, length, replicate, Option, Some, None, refl, sym, ap, subst, ◌∙◌, inl, inr, append_assoc, length-append, arith}
+use Rattle.std.proofs.Common.{◌≡◌, ℕ, suc, ◌<◌, ◌≤◌, Bool, true, false, List, [], ◌∷◌, ◌++◌, length, replicate, Option, Some, None, refl, sym, ap, subst, ◌∙◌, inl, inr, append_assoc, length-append, arith}
 use Rattle.std.specs.Prelude.{is_some, IfSome}
 use Rattle.std.proofs.lemmas.List.{append-nil}
-use Rattle.std.proofs.lemmas.Option.{none-some, same_Some}
+use Rattle.std.proofs.lemmas.Option.{same_Some}
 use Rattle.cmp_ports.specs.Faults.{Rose}
 use Rattle.cmp_ports.specs.declared.fail_info.FailInfo.{FailInfo}
 use Rattle.cmp_ports.specs.declared.fail_info.FailInfo.TheVariants.{SystemFailure}
 use Rattle.cmp_ports.specs.declared.note.Answered.{Answered}
 use Rattle.cmp_ports.specs.declared.note.Note.{Note}
-use Rattle.cmp_ports.specs.declared.note.Outcome.{Outcome}
 use Rattle.cmp_ports.specs.declared.note.Outcome.TheVariants as outcome
 use Rattle.deal_changes.specs.declared.change.Change.{Change}
 use Rattle.deal_changes.specs.declared.change.Settings.{Settings}
@@ -23,16 +22,14 @@ use Rattle.deal_table.specs.Carry.{carried_to}
 use Rattle.deal_table.specs.History.{Receipted, Begins, IsFounded, receipt_at, grant_receipt, event_time, look_of}
 use Rattle.deal_table.specs.Looked.{looked_to}
 use Rattle.deal_table.specs.Message.{Letter, is_nested, Echoed, echo_of, echo_to, echoed}
-use Rattle.deal_table.specs.Table.{To, Decision, Makes, Repeats, Refuses, bare, decision}
+use Rattle.deal_table.specs.Table.{To, Makes, Repeats, Refuses, bare, decision}
 use Rattle.deal_table.specs.declared.look.Look.{Look}
 use Rattle.desk.specs.declared.clerk.Clerk.{Ghosts}
 use Rattle.desk.specs.declared.verdict.Verdict.{Verdict}
 use Rattle.desk.specs.declared.verdict.Verdict.TheVariants as verdict
-use Rattle.desk.specs.Clerks.{decided_place}
-use Rattle.desk.specs.Verdicts.{Decides, IsMoment}
+use Rattle.desk.specs.Verdicts.{Decides}
 use Rattle.intake.specs.Fit.{IsUnfit}
 use Rattle.intake.specs.Intake.{IsStopped, IsRequest}
-use Rattle.intake.specs.Letter.{IsLetter}
 use Rattle.intake.specs.declared.request.Request.{Request}
 use Rattle.intake.specs.declared.unfit.Unfit.{Unfit}
 use Rattle.intake.specs.declared.unfit.Unfit.TheVariants as unfit
@@ -42,14 +39,14 @@ use Rattle.reply_maker.specs.Keys.{are_blank}
 use Rattle.reply_maker.specs.Refusals.{refusal_of}
 use Rattle.reply_maker.specs.Replies.{Replier, reply_of, certificate_hash}
 use Rattle.reply_maker.proofs.InForceLemmas.{in_force_out, grant_in_force_out, filled_out}
-use Rattle.front.specs.Answers.{ForLetter, IsDecision, addressed, IsReplyAt, IsAnswered, IsMade, after}
+use Rattle.front.specs.Answers.{ForLetter, IsDecision, addressed, IsReplyAt}
 use Rattle.front.specs.Clerks.{Clerked, clerked, IsAlone, IsLawful}
-use Rattle.front.specs.Courses.{IsAsked, IsRuled, AreShort, echo_in, IsFailed, IsRefused, IsTurned, IsSealed, IsSealable, IsFinished, IsResponse, IsHanded, failed_of}
-use Rattle.front.specs.Ends.{IsReply, IsDown, IsReplyFor, IsReplied, IsUnanswered, IsIdle, IsEnd, failed_in}
+use Rattle.front.specs.Courses.{IsAsked, IsRuled, echo_in, IsFailed, IsRefused, IsTurned, IsSealed, IsSealable, IsFinished, IsResponse, IsHanded, failed_of}
+use Rattle.front.specs.Ends.{IsReplyFor, IsReplied, IsUnanswered, IsIdle, IsEnd, failed_in}
 use Rattle.front.specs.Fronts.{HasSettings}
 use Rattle.front.specs.declared.reply.Reply.{Reply}
 use Rattle.front.proofs.Decided.{Known, same_known, bytes_known, le_known}
-use Rattle.front.proofs.Joins.{begins_itself, begins_so, begins_on, has_on, settings_by}
+use Rattle.front.proofs.Joins.{begins_itself, begins_so, begins_on, settings_by}
 use Rattle.front.proofs.Letters.{some_letter, stable, by_letter}
 use Rattle.front.proofs.Rulings.{true_known}
 
@@ -400,3 +397,27 @@ granted_is clerk tid r lawful e = (grant_in_force_out clerk.seen tid r lawful e)
 pub idle_response : {K : Type 0} (g : Ghosts K) (k : Replier) (b : List ℕ) (old new : K) (now : ℕ) (drawn : Option (List ℕ)) → IsAsked g old new → IsResponse k b (clerked g old) (clerked g new) now drawn None
 idle_response g k b old new now (Some w) asked = inl (record { mine = asked.mine; alone = asked.alone })
 idle_response g k b old new now None asked = record { mine = asked.mine; alone = asked.alone }
+
+-- ---- with or without memory
+
+pub finished_all : {K : Type 0} (g : Ghosts K) (k : Replier) (b : List ℕ) (old mid new : K) (now : ℕ) (w : List ℕ) (r : Request) → IsRequest b r → (look : Look) → look ≡ look_of (g.seen mid) r.ask now → IsAsked g old mid
+    → (c : Checked) (v : Verdict) → IsRuled g k b mid new now w c v → (o : Option Reply) → IfSome o (IsFinished k r c look w v) → IsResponse k b (clerked g old) (clerked g new) now (Some w) o
+finished_all g k b old mid new now w r asks look is_look asked c v rules (Some reply) is = replied g k b old mid new now w r asks look is_look asked c v reply rules is
+finished_all g k b old mid new now w r asks look is_look asked c v rules None is = spent g k b old mid new now w r asks look is_look asked c v rules
+
+pub turned_all : {K : Type 0} (g : Ghosts K) (k : Replier) (b : List ℕ) (old new : K) (now : ℕ) (w : List ℕ) → IsAsked g old new → (r : Request) (look : Look) (u : Unfit) → IsRequest b r → IsFounded (g.seen new) → look ≡ look_of (g.seen new) r.ask now → IsUnfit b r.ask look u
+    → (o : Option Reply) → IfSome o (IsTurned k r look w u) → IsResponse k b (clerked g old) (clerked g new) now (Some w) o
+turned_all g k b old new now w asked r look u asks founded is_look is_unfit (Some reply) is = turned g k b old new now w asked r look u reply asks founded is_look is_unfit is
+turned_all g k b old new now w asked r look u asks founded is_look is_unfit None is = idle_response g k b old new now (Some w) asked
+
+pub stopped_all : {K : Type 0} (g : Ghosts K) (k : Replier) (b : List ℕ) (old new : K) (now : ℕ) (w : List ℕ) → IsAsked g old new → (ask : Ask) (look : Look) (fail : FailInfo) (echo : Echo) (note : Note) → look ≡ look_of (g.seen new) ask now → IsStopped b fail echo
+    → note ≡ record { place = look.place; time = look.time; words = w; outcome = outcome.Refused fail } → (o : Option Reply) → IfSome o (λ r. r.note ≡ note) → IfSome o (λ r. r.octets ≡ refusal_of k.keys (echoed echo) fail None note.time (Some w))
+    → IsResponse k b (clerked g old) (clerked g new) now (Some w) o
+stopped_all g k b old new now w asked ask look fail echo note is_look stops is_note (Some reply) noted octets = stopped g k b old new now w asked ask look fail echo reply is_look stops (noted ∙ is_note)
+    (octets ∙ ap (λ (n : Note). refusal_of k.keys (echoed echo) fail None n.time (Some w)) is_note)
+stopped_all g k b old new now w asked ask look fail echo note is_look stops is_note None noted octets = idle_response g k b old new now (Some w) asked
+
+pub down_all : {K : Type 0} (g : Ghosts K) (k : Replier) (b : List ℕ) (old new : K) (now : ℕ) (ask : Ask) (look : Look) (echo : Echo) → IsAsked g old new → look ≡ look_of (g.seen new) ask now
+    → ForLetter k b (λ l. echoed echo ≡ echo_of l.message.header) → (o : Option Reply) → IfSome o (IsFailed k echo look (replicate 32 0)) → IsResponse k b (clerked g old) (clerked g new) now None o
+down_all g k b old new now ask look echo asked is_look repeats (Some reply) is = entropy_down g k b old new now ask look echo reply asked is_look repeats is
+down_all g k b old new now ask look echo asked is_look repeats None is = idle_response g k b old new now None asked

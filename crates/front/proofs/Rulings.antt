@@ -1,34 +1,36 @@
 -- How a message that was checked is decided, whatever letter its octets are.
-use Rattle.std.proofs.Common.{◌≡◌, ℕ, ◌≤◌, ◌⊎◌, Bool, true, false, List, [], ◌∷◌, ◌++◌, length, Option, Some, None, refl, sym, ap, subst, ◌∙◌, inl, inr, arith}
+use Rattle.std.proofs.Common.{◌≡◌, ℕ, ◌≤◌, Bool, true, false, List, [], ◌∷◌, ◌++◌, Option, Some, None, refl, sym, ap, subst, ◌∙◌, inl, inr, arith}
 use Rattle.std.specs.Prelude.{is_some}
 use Rattle.std.specs.Str.{bytes_eq}
 use Rattle.std.proofs.lemmas.List.{append-nil}
 use Rattle.std.proofs.lemmas.Option.{none-some}
-use Rattle.sha2.specs.Sha256.{sha256}
+use Rattle.sha2.proofs.Facts256.{length-sha256}
 use Rattle.cmp_ports.specs.Faults.{Rose}
 use Rattle.deal_changes.specs.declared.change.Change.{Change}
+use Rattle.deal_model.specs.declared.asking.Ask.{Ask}
 use Rattle.deal_model.specs.declared.asking.Checked.{Checked}
 use Rattle.deal_model.specs.declared.asking.Job.{Job}
 use Rattle.deal_model.specs.declared.asking.Job.TheVariants.{Repeat, Enrol, Confirm, Poll, Withdraw}
 use Rattle.deal_model.specs.Views.{History}
 use Rattle.deal_table.proofs.Sends.{left_answers}
 use Rattle.deal_table.proofs.Stays.{grant_stays}
-use Rattle.deal_table.specs.Carry.{FitsChecked, Carries, untold, IsTold, HashIsTold, is_confirm_job, left}
-use Rattle.deal_table.specs.History.{Receipted, Begins, grant_receipt}
-use Rattle.deal_table.specs.Message.{Body, Confirmation, Enrols, Confirms, Polls, Withdraws, Nests, OtherBody, Letter, subject_of}
+use Rattle.deal_table.specs.Carry.{FitsChecked, Carries, untold, IsTold, HashIsTold, is_confirm_job}
+use Rattle.deal_table.specs.History.{Receipted, Begins, IsFounded, grant_receipt, look_of}
+use Rattle.deal_table.specs.declared.look.Look.{Look}
+use Rattle.deal_table.specs.Message.{Body, Enrols, Confirms, Polls, Withdraws, Nests, OtherBody, Letter, subject_of}
 use Rattle.deal_table.specs.Table.{Makes}
 use Rattle.desk.specs.declared.clerk.Clerk.{Ghosts}
 use Rattle.desk.specs.declared.verdict.Verdict.{Verdict}
 use Rattle.desk.specs.declared.verdict.Verdict.TheVariants.{Done, Again, Refused, Stale, DiskFault, NoMemory}
 use Rattle.desk.specs.Clerks.{decided_place, IsDecidedAlone}
 use Rattle.desk.specs.Verdicts.{Decides, LeftMakes}
-use Rattle.intake.specs.Fit.{IsCompared, ComparesHash}
-use Rattle.intake.specs.Letter.{IsLetter}
+use Rattle.intake.specs.Fit as fit
+use Rattle.intake.specs.Fit.{AreDigests, IsHashTold, IsCompared, ComparesHash}
 use Rattle.reply_maker.specs.Replies.{Replier, certificate_hash}
 use Rattle.front.specs.Answers.{ForLetter, addressed, IsOwn}
-use Rattle.front.specs.Clerks.{clerked, IsAlone, Goes}
+use Rattle.front.specs.Clerks.{Goes}
 use Rattle.front.specs.Courses.{IsAsked, IsDecided, IsCarried, told_by, told_of, IsTellable, is_stale, IsRuled}
-use Rattle.front.proofs.Decided.{Known, none_known}
+use Rattle.front.proofs.Decided.{Known}
 use Rattle.front.proofs.Joins.{begins_itself, begins_on, asked_goes, goes_on, goes_as}
 use Rattle.front.proofs.Letters.{by_letter}
 
@@ -237,3 +239,24 @@ module _ {K : Type 0} (g : Ghosts K) (k : Replier) (b : List ℕ) where
     alone = λ alone. alone_since (g.seen old) (g.seen mid) (g.seen new) v (first.alone alone) (second.alone (ap (λ h. h.table) first.goes.held ∙ alone));
     stale = second.stale;
   }
+
+  -- looked at, and then decided
+  pub served_goes : (old mid new : K) (now : ℕ) (w : List ℕ) (c : Checked) (v : Verdict) → IsAsked g old mid → IsRuled g k b mid new now w c v → Goes g old new (IsOwn k b (g.seen old) now w)
+  served_goes old mid new now w c v asked rules = goes_on g old mid new (IsOwn k b (g.seen old) now w) (asked_goes g old mid (IsOwn k b (g.seen old) now w) asked) asked.alone
+      (goes_as g mid new (IsOwn k b (g.seen mid) now w) (IsOwn k b (g.seen old) now w) rules.goes (λ alone x own. subst (λ (h : History). IsOwn k b h now w x) (asked.alone (ap (λ h. h.table) (sym asked.held) ∙ alone)) own))
+
+-- ---- what was checked
+
+digests : (k : Replier) → AreDigests (certificate_hash k)
+unfolding certificate_hash
+digests k r = length-sha256 _
+
+pub carried_by : (k : Replier) (b : List ℕ) (ask : Ask) (look : Look) (h : History) (now : ℕ) (c : Checked) → IsFounded h → look ≡ look_of h ask now → fit.IsCarried b ask look c → IsHashTold b c → ComparesHash b c → FitsChecked c → IsCarried k b h c
+carried_by k b ask look h now c founded is_look carries told compares fits = record {
+  looked = h;
+  begun = begins_itself h;
+  carries = λ l letter. carries (certificate_hash k) l h now letter founded is_look;
+  told = λ l letter. told (certificate_hash k) l h (digests k) letter;
+  compares = compares;
+  fits = fits;
+}

@@ -9,7 +9,6 @@ use Rattle.cmp_ports.specs.declared.note.Answered.{Answered}
 use Rattle.cmp_ports.specs.declared.note.Answered.TheVariants as answered
 use Rattle.cmp_ports.specs.declared.note.Outcome.{Outcome}
 use Rattle.cmp_ports.specs.declared.note.Outcome.TheVariants as outcome
-use Rattle.deal_changes.specs.declared.change.Change.{Change}
 use Rattle.deal_changes.specs.declared.change.Settings.{Settings}
 use Rattle.deal_changes.specs.Times.{time_of_change}
 use Rattle.deal_model.specs.declared.asking.Checked.{Checked}

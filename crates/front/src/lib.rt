@@ -3,9 +3,11 @@
 #![tactic(auto)]
 
 mod asking;
+mod deciding;
 mod device;
 mod drawing;
 mod front;
+mod guards;
 mod handing;
 mod reply;
 mod serving;
