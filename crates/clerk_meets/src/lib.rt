@@ -1,0 +1,7 @@
+//! Tests of seats that meet at one desk.
+#![tactic(auto)]
+
+#[cfg(test)]
+mod desks;
+#[cfg(test)]
+mod enlisting;
