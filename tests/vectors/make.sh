@@ -51,7 +51,7 @@ trap 'rm -rf "$classes"' EXIT
 javac -cp "$path" -d "$classes" "$here/java/org/bouncycastle/pqc/crypto/lms/Inside.java" \
     "$here/java/LmsVectors.java" "$here/java/AsnVectors.java" "$here/java/CertVectors.java" \
     "$here/java/RequestVectors.java" "$here/java/HeaderVectors.java" "$here/java/MessageVectors.java" \
-    "$here/java/ProtectionVectors.java" \
+    "$here/java/ProtectionVectors.java" "$here/java/TakeVectors.java" \
     "$here/java/ReplyVectors.java" "$here/java/BodyVectors.java"
 java -Dstdout.encoding=UTF-8 -cp "$classes:$path" AsnVectors >"$out/asn.txt"
 java -cp "$classes:$path" CertVectors >"$out/certs.txt"
@@ -59,9 +59,10 @@ java -cp "$classes:$path" RequestVectors >"$out/requests.txt"
 java -cp "$classes:$path" HeaderVectors >"$out/headers.txt"
 java -cp "$classes:$path" MessageVectors >"$out/messages.txt"
 java -cp "$classes:$path" ProtectionVectors >"$out/protections.txt"
+java -cp "$classes:$path" TakeVectors >"$out/takes.txt"
 java -cp "$classes:$path" ReplyVectors >"$out/replies.txt"
 java -cp "$classes:$path" BodyVectors >"$out/bodies.txt"
-echo "asn.txt, certs.txt, requests.txt, headers.txt, messages.txt, protections.txt, replies.txt and bodies.txt are made"
+echo "asn.txt, certs.txt, requests.txt, headers.txt, messages.txt, protections.txt, takes.txt, replies.txt and bodies.txt are made"
 for part in ots trees hss; do
     java -cp "$classes:$path" LmsVectors "$part" >"$out/lms_$part.txt"
 done
