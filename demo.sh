@@ -71,7 +71,7 @@ show "A messageTime put in afterwards" \
 show "A secret of 4 octets" \
     "" "usage: cmpca verify SECRET | JOURNAL KEY COMMAND" 2 verify 4a656665
 
-# The journal of an enrolled device, laid out by Python since no command enrols one yet
+# The journal of an enrolled device, laid out by Python
 journal=$(python3 "$top/tests/vectors/journal_vectors.py" | sed -n 's/^journal //p')
 folder=$(mktemp -d)
 trap 'rm -rf "$folder"' EXIT
@@ -124,5 +124,32 @@ show "The credential of a device" "$devices" "enlisted 1" 0 journal key enlist
 show "How it stands" "" "changes 2
 issue 2 of 32
 reply 0 of 32" 0 journal key show
+
+# Lets the program answer a message of a file: title, file, status, file of the reply.
+take() {
+    local title=$1 message=$2 told_status=$3 reply=$4 status=0
+    "$program" journal key take <"$message" >"$reply" || status=$?
+    printf '%s\n  $ cmpca journal key take <%s >%s\n  %s octets\n  status %s\n' "$title" "$message" "$reply" "$(wc -c <"$reply" | tr -d ' ')" "$status"
+    if [ "$status" != "$told_status" ]; then
+        printf '  but this was told: status %s\n' "$told_status"
+        failed=1
+    fi
+}
+
+# A device in Python, which makes its key, checks each reply and carries the messages in files
+device() { python3 -B "$top/tests/interop/device.py" "$1" . || failed=1; }
+device request
+take "The device asks for a certificate (ir), and gets one (ip)" ir.der 0 ip.der
+device confirm
+take "The same ir again gets the same ip" ir.der 0 again.der
+cmp ip.der again.der || failed=1
+take "The device accepts the certificate (certConf), and is heard (pkiconf)" certconf.der 0 pkiconf.der
+device done
+head -c 1000 ir.der >cut.der
+take "A message that is cut off is refused (error, badDataFormat)" cut.der 1 error.der
+show "How it stands" "" "changes 4
+issue 3 of 32
+reply 0 of 32
+cert 3 confirmed 000102030405060708090a0b0c0d0e0f" 0 journal key show
 
 exit $failed

@@ -22,7 +22,7 @@ no_memory_unmounted None = tt
 no_memory_unmounted (Some f) = tt
 
 -- a fault of the mount that is told, or want of memory in its place
-told_unmounted : OneAnswer → (content : Option (List ℕ)) (fault said : MountFault) → ((f : List ℕ) → content ≡ Some f → Refuses f fault) → (said ≡ fault) ⊎ (said ≡ mounts.NoMemory) → IfSome content (λ f. IsUnmounted f said)
+pub told_unmounted : OneAnswer → (content : Option (List ℕ)) (fault said : MountFault) → ((f : List ℕ) → content ≡ Some f → Refuses f fault) → (said ≡ fault) ⊎ (said ≡ mounts.NoMemory) → IfSome content (λ f. IsUnmounted f said)
 told_unmounted one content fault said refuses is = ⊎_elim
     (λ same. subst (λ (m : MountFault). IfSome content (λ f. IsUnmounted f m)) (sym same) (told content (λ f. IsUnmounted f fault) (λ f e. unmounted one f fault (refuses f e))))
     (λ none. subst (λ (m : MountFault). IfSome content (λ f. IsUnmounted f m)) (sym none) (no_memory_unmounted content))
@@ -45,14 +45,14 @@ module _ {D : Type 0} (content : D → Option (List ℕ)) (images : D → List �
       )
 
   -- a run that acted on the history h, which the mount left on the disk mid, and left g with e in doubt
-  pub changed_reply : OneAnswer → (old mid new : D) (Acts : Deed) (IsOwn : History → Change → Type 0) (h g : History) (e : Option Change) (status : Status) (text : List ℕ)
+  pub changed_run : OneAnswer → (old mid new : D) (Acts : Deed) (IsOwn : History → Change → Type 0) (h g : History) (e : Option Change) (status : Status) (text : List ℕ)
       → ((f : List ℕ) → content old ≡ Some f → Stands f h)
       → LeavesOnly moment left_since old mid (images old) → LeavesOnly moment left_since mid new (RecoversWith h (IsOwn h))
       → Images (images new) g e → ∥ Legal g × IfSome e (Allowed g) ∥₁
-      → Acts h status text g e → IsChangeReply (run_of content images moment left_since old new) Acts IsOwn status text
-  changed_reply one old mid new Acts IsOwn h g e status text stands mounting acting stand lawful acts =
+      → Acts h status text g e → IsChanged (run_of content images moment left_since old new) Acts IsOwn status text
+  changed_run one old mid new Acts IsOwn h g e status text stands mounting acting stand lawful acts =
       let P : List ℕ → Type 0 = λ image. images old image ⊎ RecoversWith h (IsOwn h) image in
-      inr record {
+      record {
         before = h;
         after = g;
         doubt = e;
@@ -66,11 +66,19 @@ module _ {D : Type 0} (content : D → Option (List ℕ)) (images : D → List �
             (weaker moment left_since mid new (RecoversWith h (IsOwn h)) P acting (λ image left. inr left));
       }
 
+  pub changed_reply : OneAnswer → (old mid new : D) (Acts : Deed) (IsOwn : History → Change → Type 0) (h g : History) (e : Option Change) (status : Status) (text : List ℕ)
+      → ((f : List ℕ) → content old ≡ Some f → Stands f h)
+      → LeavesOnly moment left_since old mid (images old) → LeavesOnly moment left_since mid new (RecoversWith h (IsOwn h))
+      → Images (images new) g e → ∥ Legal g × IfSome e (Allowed g) ∥₁
+      → Acts h status text g e → IsChangeReply (run_of content images moment left_since old new) Acts IsOwn status text
+  changed_reply one old mid new Acts IsOwn h g e status text stands mounting acting stand lawful acts =
+      inr (changed_run one old mid new Acts IsOwn h g e status text stands mounting acting stand lawful acts)
+
 -- ---- the same over a disk that is lent to the desk by a reference
 
 module _ {D R : Type 0} (now : R → D) (content : D → Option (List ℕ)) (images : D → List ℕ → Type 0) (moment : D → ℕ) (left_since : D → ℕ → List ℕ → Type 0) (honest : (d : D) (f : List ℕ) → content d ≡ Some f → images d f) where
   -- what a reference leaves, its disk leaves
-  lent : (old new : R) (P : List ℕ → Type 0) → LeavesOnly (λ r. moment (now r)) (λ r t. left_since (now r) t) old new P → LeavesOnly moment left_since (now old) (now new) P
+  pub lent : (old new : R) (P : List ℕ → Type 0) → LeavesOnly (λ r. moment (now r)) (λ r t. left_since (now r) t) old new P → LeavesOnly moment left_since (now old) (now new) P
   lent old new P left = record { later = left.later; each = left.each; before = left.before }
 
   -- the disk that the mount gave back is the run's last one

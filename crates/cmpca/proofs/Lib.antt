@@ -8,3 +8,5 @@ mod EnlistLemmas
 mod FoundLemmas
 mod InitLemmas
 mod InitReplyLemmas
+mod TakeLemmas
+mod AnswerLemmas

@@ -8,12 +8,13 @@ use Rattle.cmp_ports.specs.declared.order.Order.TheVariants as orders
 use Rattle.deal_changes.specs.declared.change.Kind.{Kind}
 use Rattle.pki_message.specs.Frame.{FrameForm, IsFrame, message_limit}
 use Rattle.cmpca.specs.declared.words.Command.{Command}
-use Rattle.cmpca.specs.declared.words.Command.TheVariants.{Verify, Init, Show, Enlist, Dismiss, Release, Deny}
+use Rattle.cmpca.specs.declared.words.Command.TheVariants.{Verify, Init, Take, Show, Enlist, Dismiss, Release, Deny}
 use Rattle.cmpca.specs.Causes.{IsSoleVerdict}
 use Rattle.cmpca.specs.Lines.{line}
 use Rattle.cmpca.specs.Changes.{DiskRun}
 use Rattle.cmpca.specs.Deeds.{Enlists, IsFileListed, Dismisses, IsDismissedAt}
 use Rattle.cmpca.specs.Inits.{IsInitReply}
+use Rattle.cmpca.specs.Takes.{IsTakeReply}
 use Rattle.cmpca.specs.Reply.{Ran, RanKeyed, Replied, Wrote, IsReply, IsVerifyReply, IsShowReply, IsChangeReply, IsOrderReply, TellsVerdict, verdict_status, verdict_line, usage_line}
 use Rattle.cmpca.specs.declared.verdict.Verdict.{Verdict}
 use Rattle.cmpca.specs.declared.verdict.Verdict.TheVariants.{Verified, BadDataFormat, Unprotected, BadAlg, WrongMac}
@@ -69,7 +70,7 @@ pub reformed : (P Q : Status → List ℕ → Type 0) (old new : Option (List �
 reformed P Q old new status form r = record { reply = r.reply; text = r.text; is_reply = form r.reply r.text r.is_reply; wrote = r.wrote }
 
 -- a run whose reply is by neither the input nor the key file
-keyed_any : (left key : Option (List ℕ)) (P : Status → List ℕ → Type 0) (Q : List ℕ → List ℕ → Status → List ℕ → Type 0) (old new : Option (List ℕ)) (status : Status)
+pub keyed_any : (left key : Option (List ℕ)) (P : Status → List ℕ → Type 0) (Q : List ℕ → List ℕ → Status → List ℕ → Type 0) (old new : Option (List ℕ)) (status : Status)
     → ((input file : List ℕ) (reply : Status) (text : List ℕ) → P reply text → Q input file reply text) → Replied P old new status → RanKeyed left key Q old new status
 keyed_any left key P Q old new status form r =
     let i = some_input left in
@@ -120,14 +121,14 @@ no_memory_reply (Some f) = inr record { fault = mounts.NoMemory; unmounted = tt;
 
 -- ---- each command of the words
 
-module _ (o : Option Command) (left key : Option (List ℕ)) (IsReading : ℕ → Type 0) (disk : DiskRun) (old new : Option (List ℕ)) (status : Status) where
+module _ (o : Option Command) (left key : Option (List ℕ)) (Unused : Type 0) (IsReading : ℕ → Type 0) (IsDraw : Option (List ℕ) → Type 0) (disk : DiskRun) (old new : Option (List ℕ)) (status : Status) where
   -- the run for what the words ask for
   abbrev Run : Type 0
-  Run = RanKeyed left key (IsReply o IsReading disk) old new status
+  Run = RanKeyed left key (IsReply o Unused IsReading IsDraw disk) old new status
 
   -- the same, for a command
-  as_asked : (command : Option Command) → o ≡ command → RanKeyed left key (IsReply command IsReading disk) old new status → Run
-  as_asked command asked r = subst (λ (c : Option Command). RanKeyed left key (IsReply c IsReading disk) old new status) (sym asked) r
+  as_asked : (command : Option Command) → o ≡ command → RanKeyed left key (IsReply command Unused IsReading IsDraw disk) old new status → Run
+  as_asked command asked r = subst (λ (c : Option Command). RanKeyed left key (IsReply c Unused IsReading IsDraw disk) old new status) (sym asked) r
 
   pub asked_nothing : o ≡ None → Wrote old new Usage usage_line status → Run
   asked_nothing none wrote = as_asked None none (keyed_any left key _ _ old new status (λ input file reply text is. is) (replied (λ reply text. (reply ≡ Usage) × (text ≡ usage_line)) old new Usage status usage_line (refl, refl) wrote))
@@ -137,6 +138,9 @@ module _ (o : Option Command) (left key : Option (List ℕ)) (IsReading : ℕ �
 
   pub asked_init : (now : ℕ) → IsReading now → o ≡ Some Init → RanKeyed left key (IsInitReply disk now) old new status → Run
   asked_init now reading asked r = as_asked (Some Init) asked (keyed_form left key _ _ old new status (λ input file reply text is. (now, reading, is)) r)
+
+  pub asked_take : o ≡ Some Take → RanKeyed left key (IsTakeReply disk Unused IsReading IsDraw) old new status → Run
+  asked_take asked r = as_asked (Some Take) asked (keyed_form left key _ _ old new status (λ input file reply text is. is) r)
 
   pub asked_show : o ≡ Some Show → Replied (IsShowReply disk.content_before) old new status → Run
   asked_show asked r = as_asked (Some Show) asked (keyed_any left key _ _ old new status (λ input file reply text is. is) r)

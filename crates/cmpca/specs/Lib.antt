@@ -7,4 +7,6 @@ pub mod Mounts
 pub mod Changes
 pub mod Deeds
 pub mod Inits
+pub mod Takes
+pub mod Takings
 pub mod Reply

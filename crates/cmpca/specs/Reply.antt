@@ -1,5 +1,5 @@
--- What a run of the program writes and how it ends, by its words, its input, its key file, the clock's reading and what its disk
--- holds.
+-- What a run of the program writes and how it ends, by its words, its input, its key file, the clock's reading, the words that were
+-- drawn and what its disk holds.
 use Rattle.std.specs.Prelude.{ℕ, ◌≡◌, Result, Ok, List, Option, Some, None, IfSome, codes, ◌⊎◌}
 use Rattle.std.specs.Io.KnownBytes.{Appends}
 use Rattle.cmp_ports.specs.declared.order.Order.{Order}
@@ -14,9 +14,10 @@ use Rattle.cmpca.specs.Mounts.{IsAnswer, TellsFault}
 use Rattle.cmpca.specs.Changes.{DiskRun, IsUnchanged, Deed, IsChanged}
 use Rattle.cmpca.specs.Deeds.{Enlists, IsFileListed, Dismisses, IsDismissedAt, Obeys, IsOrderedAt}
 use Rattle.cmpca.specs.Inits.{IsInitReply}
+use Rattle.cmpca.specs.Takes.{IsTakeReply}
 use Rattle.cmpca.specs.Causes.{IsSoleVerdict}
 use Rattle.cmpca.specs.declared.words.Command.{Command}
-use Rattle.cmpca.specs.declared.words.Command.TheVariants.{Verify, Init, Show, Enlist, Dismiss, Release, Deny}
+use Rattle.cmpca.specs.declared.words.Command.TheVariants.{Verify, Init, Take, Show, Enlist, Dismiss, Release, Deny}
 use Rattle.cmpca.specs.declared.verdict.Verdict.{Verdict}
 use Rattle.cmpca.specs.declared.verdict.Verdict.TheVariants.{Verified, BadDataFormat, Unprotected, BadAlg, WrongMac}
 use Rattle.cmpca.specs.declared.status.Status.{Status}
@@ -92,15 +93,16 @@ AtReading IsReading P = (now : ℕ) × IsReading now × P now
 
 -- The text that a run writes which ends with this status, for its command, the clock's reading, its disk, its input and its key
 -- file, where each write succeeds.
-abbrev pub IsReply : Option Command → (ℕ → Type 0) → DiskRun → List ℕ → List ℕ → Status → List ℕ → Type 0
-IsReply None IsReading disk input key status text = (status ≡ Usage) × (text ≡ usage_line)
-IsReply (Some (Verify secret)) IsReading disk input key status text = IsVerifyReply secret input status text
-IsReply (Some Init) IsReading disk input key status text = AtReading IsReading (λ now. IsInitReply disk now input key status text)
-IsReply (Some Show) IsReading disk input key status text = IsShowReply disk.content_before status text
-IsReply (Some Enlist) IsReading disk input key status text = AtReading IsReading (λ now. IsChangeReply disk (Enlists input now) (IsFileListed input now) status text)
-IsReply (Some (Dismiss kind id)) IsReading disk input key status text = AtReading IsReading (λ now. IsChangeReply disk (Dismisses kind id now) (IsDismissedAt kind id now) status text)
-IsReply (Some (Release tid)) IsReading disk input key status text = AtReading IsReading (λ now. IsOrderReply disk (orders.Release tid) (line (codes "released")) now status text)
-IsReply (Some (Deny tid)) IsReading disk input key status text = AtReading IsReading (λ now. IsOrderReply disk (orders.Deny tid) (line (codes "denied")) now status text)
+abbrev pub IsReply : Option Command → Type 0 → (ℕ → Type 0) → (Option (List ℕ) → Type 0) → DiskRun → List ℕ → List ℕ → Status → List ℕ → Type 0
+IsReply None Unused IsReading IsDraw disk input key status text = (status ≡ Usage) × (text ≡ usage_line)
+IsReply (Some (Verify secret)) Unused IsReading IsDraw disk input key status text = IsVerifyReply secret input status text
+IsReply (Some Init) Unused IsReading IsDraw disk input key status text = AtReading IsReading (λ now. IsInitReply disk now input key status text)
+IsReply (Some Take) Unused IsReading IsDraw disk input key status text = IsTakeReply disk Unused IsReading IsDraw input key status text
+IsReply (Some Show) Unused IsReading IsDraw disk input key status text = IsShowReply disk.content_before status text
+IsReply (Some Enlist) Unused IsReading IsDraw disk input key status text = AtReading IsReading (λ now. IsChangeReply disk (Enlists input now) (IsFileListed input now) status text)
+IsReply (Some (Dismiss kind id)) Unused IsReading IsDraw disk input key status text = AtReading IsReading (λ now. IsChangeReply disk (Dismisses kind id now) (IsDismissedAt kind id now) status text)
+IsReply (Some (Release tid)) Unused IsReading IsDraw disk input key status text = AtReading IsReading (λ now. IsOrderReply disk (orders.Release tid) (line (codes "released")) now status text)
+IsReply (Some (Deny tid)) Unused IsReading IsDraw disk input key status text = AtReading IsReading (λ now. IsOrderReply disk (orders.Deny tid) (line (codes "denied")) now status text)
 
 -- A text was written whole and the run ends as the text does; or a write failed, and some first octets were written.
 abbrev pub Wrote : Option (List ℕ) → Option (List ℕ) → Status → List ℕ → Status → Type 0

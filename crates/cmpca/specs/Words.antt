@@ -6,7 +6,7 @@ use Rattle.hex.specs.Hex.{decode_of}
 use Rattle.deal_changes.specs.declared.change.Kind.{Kind}
 use Rattle.deal_changes.specs.declared.change.Kind.TheVariants.{Mac, Lms}
 use Rattle.cmpca.specs.declared.words.Command.{Command}
-use Rattle.cmpca.specs.declared.words.Command.TheVariants.{Verify, Init, Show, Enlist, Dismiss, Release, Deny}
+use Rattle.cmpca.specs.declared.words.Command.TheVariants.{Verify, Init, Take, Show, Enlist, Dismiss, Release, Deny}
 
 -- the octets that the digits of a word stand for, in hex of either case, where there are so many
 abbrev pub octets_of : ℕ → ℕ → List ℕ → Option (List ℕ)
@@ -32,9 +32,10 @@ order_of verb word =
 abbrev pub lone_of : List ℕ → Option Command
 lone_of verb =
     if bytes_eq verb (codes "init") then Some Init
-    else (if bytes_eq verb (codes "show") then Some Show else (if bytes_eq verb (codes "enlist") then Some Enlist else None))
+    else (if bytes_eq verb (codes "take") then Some Take
+    else (if bytes_eq verb (codes "show") then Some Show else (if bytes_eq verb (codes "enlist") then Some Enlist else None)))
 
--- What is asked for of a journal: `init`, `show`, `enlist`, `dismiss KIND ID`, `release TID` or `deny TID`.
+-- What is asked for of a journal: `init`, `take`, `show`, `enlist`, `dismiss KIND ID`, `release TID` or `deny TID`.
 abbrev pub journal_command_of : List (List ℕ) → Option Command
 journal_command_of (verb ∷ []) = lone_of verb
 journal_command_of (verb ∷ word ∷ []) = order_of verb word
@@ -48,16 +49,22 @@ command_of (verb ∷ word ∷ []) = if bytes_eq verb (codes "verify") then optio
 command_of (journal ∷ key ∷ asked) = journal_command_of asked
 command_of _ = None
 
--- which commands read the input, which the key file, which the disk, and which may change what it holds
+-- which commands read the input, which the key file, which draw words, which read the disk, and which may change what it holds
 abbrev pub reads_input : Option Command → Bool
 reads_input (Some (Verify secret)) = true
 reads_input (Some Init) = true
+reads_input (Some Take) = true
 reads_input (Some Enlist) = true
 reads_input _ = false
 
 abbrev pub reads_key : Option Command → Bool
 reads_key (Some Init) = true
+reads_key (Some Take) = true
 reads_key _ = false
+
+abbrev pub draws_words : Option Command → Bool
+draws_words (Some Take) = true
+draws_words _ = false
 
 abbrev pub reads_disk : Option Command → Bool
 reads_disk (Some (Verify secret)) = false
@@ -66,6 +73,7 @@ reads_disk _ = true
 
 abbrev pub changes_history : Option Command → Bool
 changes_history (Some Init) = true
+changes_history (Some Take) = true
 changes_history (Some Enlist) = true
 changes_history (Some (Dismiss kind id)) = true
 changes_history (Some (Release tid)) = true

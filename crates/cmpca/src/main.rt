@@ -9,10 +9,12 @@ mod ending;
 mod enlist;
 mod file;
 mod init;
+mod lent_clerk;
 mod order;
 mod reply;
 mod show;
 mod status;
+mod take;
 #[cfg(test)]
 mod tests;
 mod tool;

@@ -7,6 +7,7 @@
 mod init;
 mod journal;
 mod show;
+mod take;
 
 use crate::status::Status;
 use crate::tool::run_tool;

@@ -3,7 +3,7 @@ ghost use Rattle.std.specs.Prelude.{◌≡◌, ◌≢◌, ◌⊎◌, ◌≤◌, 
 ghost use Rattle.cmp_ports.specs.Coming.{Gives};
 ghost use Rattle.cmp_ports.specs.Disk.{Among, LeavesOnly};
 ghost use Rattle.cmp_ports.specs.Faults.{Rose};
-ghost use Rattle.cmpca.specs.Words.{command_of, reads_input, reads_key, reads_disk, changes_history};
+ghost use Rattle.cmpca.specs.Words.{command_of, reads_input, reads_key, draws_words, reads_disk, changes_history};
 ghost use Rattle.cmpca.specs.Changes.{run_of};
 ghost use Rattle.cmpca.specs.Reply.{IsVerifyReply, IsShowReply, IsReply, Replied, Ran, RanKeyed};
 
@@ -15,6 +15,7 @@ use crate::init::run_init;
 use crate::order::run_order;
 use crate::show::show;
 use crate::status::Status;
+use crate::take::run_take;
 use crate::words::{Command, read_words};
 use cmp_ports::{Clock, Disk, Entropy, Order, ReadError, Sink, Source, read_up_to};
 use pki_message::MESSAGE_LIMIT;
@@ -63,8 +64,9 @@ fn run_show<D: Disk, W: Sink>(alloc: Global, disk: &mut D, out: &mut W) -> Statu
 
 /// Runs the program on its words. `verify` reads one message from `input`, `enlist` a file of credentials and `init` one of settings;
 /// `init` reads the key file from `key` besides, and founds a history on the disk. The other commands on a journal mount the history
-/// that the disk holds. Those that change it read the clock once, before all else, as `init` does. What the words ask for is written
-/// to `out`, or why it isn't done or can't be told.
+/// that the disk holds. Those that change it read the clock once, before all else, as `init` does. `take` reads the key file and then
+/// a message, and only then the clock and the entropy, each once. What the words ask for is written to `out`, or why it isn't done or
+/// can't be told.
 pub fn run_tool<D: Disk, S: Source, K: Source, C: Clock, E: Entropy, W: Sink>(
     alloc: Global,
     words: &[String],
@@ -75,12 +77,12 @@ pub fn run_tool<D: Disk, S: Source, K: Source, C: Clock, E: Entropy, W: Sink>(
     entropy: &mut E,
     out: &mut W,
 ) -> Status
-    // What is written, the status and the history after are the reply to the words, the input, the key file, the reading and the
-    // history before.
-    ensures ran { RanKeyed (S.left input.old) (K.left key.old) (IsReply (command_of (map string_bytes words.now)) (Gives (C.readings clock.old) (C.readings clock.new)) (run_of D.content D.images D.moment D.left_since disk.old disk.new)) (W.written out.old) (W.written out.new) result }
+    // What is written, the status and the history after are the reply to the words, the input, the key file, the reading, the draw and
+    // the history before.
+    ensures ran { RanKeyed (S.left input.old) (K.left key.old) (IsReply (command_of (map string_bytes words.now)) ((clock.new ≡ clock.old) × (entropy.new ≡ entropy.old)) (Gives (C.readings clock.old) (C.readings clock.new)) (Gives (E.draws entropy.old) (E.draws entropy.new)) (run_of D.content D.images D.moment D.left_since disk.old disk.new)) (W.written out.old) (W.written out.new) result }
 
-    // What the command doesn't read is as before: its faults, and what it still gives. No command reads the entropy.
-    ensures entropy { entropy.new ≡ entropy.old }
+    // What the command doesn't read is as before: its faults, and what it still gives.
+    ensures entropy { draws_words (command_of (map string_bytes words.now)) ≡ false → entropy.new ≡ entropy.old }
     ensures key { reads_key (command_of (map string_bytes words.now)) ≡ false → key.new ≡ key.old }
     ensures clock { changes_history (command_of (map string_bytes words.now)) ≡ false → clock.new ≡ clock.old }
     ensures unread { reads_input (command_of (map string_bytes words.now)) ≡ false → input.new ≡ input.old }
@@ -92,8 +94,8 @@ pub fn run_tool<D: Disk, S: Source, K: Source, C: Clock, E: Entropy, W: Sink>(
     ensures crash { changes_history (command_of (map string_bytes words.now)) ≡ false → Among (D.images disk.old) (D.images disk.new) }
     ensures moments { changes_history (command_of (map string_bytes words.now)) ≡ false → LeavesOnly D.moment D.left_since disk.old disk.new (D.images disk.old) }
 
-    // The faults of the streams, of the key file and of the disk alone give these.
-    ensures read_fault { result ≡ Status.ReadFault → Rose (S.faults input.old) (S.faults input.new) ⊎ Rose (K.faults key.old) (K.faults key.new) }
+    // The faults of the streams, of the key file, of the entropy and of the disk alone give these.
+    ensures read_fault { result ≡ Status.ReadFault → (Rose (S.faults input.old) (S.faults input.new) ⊎ Rose (K.faults key.old) (K.faults key.new)) ⊎ Rose (E.faults entropy.old) (E.faults entropy.new) }
     ensures write_fault { result ≡ Status.WriteFault → Rose (W.faults out.old) (W.faults out.new) }
     ensures disk_fault { result ≡ Status.DiskFault → Rose (D.faults disk.old) (D.faults disk.new) }
 {
@@ -103,6 +105,7 @@ pub fn run_tool<D: Disk, S: Source, K: Source, C: Clock, E: Entropy, W: Sink>(
     match &command {
         Command::Verify { secret } => run_verify(alloc, secret.as_slice(), input, out),
         Command::Init => run_init(alloc, key, input, disk, clock.now(), out),
+        Command::Take => run_take(alloc, key, input, disk, clock, entropy, out),
         Command::Show => run_show(alloc, disk, out),
         Command::Enlist => run_enlist(alloc, input, disk, clock.now(), out),
         Command::Dismiss { kind, id } => run_dismiss(alloc, *kind, id, disk, clock.now(), out),

@@ -28,6 +28,8 @@ pub enum Command {
     },
     /// To found a journal with the settings of a file.
     Init,
+    /// To answer a message.
+    Take,
     /// To tell how the history of a journal stands.
     Show,
     /// To list the credentials of a file.
@@ -91,6 +93,9 @@ fn read_lone(verb: &str) -> Option<Command>
 {
     if verb == "init" {
         return Some(Command::Init);
+    }
+    if verb == "take" {
+        return Some(Command::Take);
     }
     if verb == "show" {
         return Some(Command::Show);
