@@ -5,7 +5,6 @@ use Rattle.cmpca.specs.Takings.{taken_status}
 use Rattle.front.specs.Fronts.{replier_by}
 use Rattle.cmpca.proofs.take.answer_on.Goals as goal
 
-
 pub returns-clause-answering : goal.returns-clause-answering
 returns-clause-answering g c =
     let a = c.answer-answered.ensures.answered in
