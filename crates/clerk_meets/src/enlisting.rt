@@ -10,7 +10,8 @@ use desk::{Desk, Listing};
 use std::alloc::{AllocError, Global};
 use std::sync::Wait;
 use std::test::Fail;
-use turnstile::{Seat, Turnstile};
+use std::thread::{Threads, join};
+use turnstile::{Chronicle, Seat, Turnstile};
 
 // One reference, which is a letter with a number behind it.
 fn reference(alloc: Global, letter: u8, number: u8) -> Result<CredentialList, AllocError>
@@ -34,25 +35,34 @@ fn reference(alloc: Global, letter: u8, number: u8) -> Result<CredentialList, Al
     ]?))
 }
 
-// Lists one reference, and tells how many changes that made.
-fn enlist<D: Disk>(desk: &mut Desk<D>, list: &CredentialList) -> u64
-    requires fit { AreFit list.now }
-    requires one { length list.now ≡ 1 }
-    ensures one { result ≤ 1 }
-    ensures grown { Extends desk.old.history.items desk.new.history.items }
-    ensures count { length desk.new.history.items ≡ length desk.old.history.items + result }
-{
-    match desk.enlist(list, NOW) {
-        Listing::Done { .. } => 1,
-        _ => 0,
+/// A value to which references can be listed.
+trait Lister: Chronicle {
+    ghost use Rattle.desk.specs.Listings.{AreFit};
+    ghost use Rattle.turnstile.specs.Lists.{Extends};
+
+    /// Lists one reference, and tells how many changes that made.
+    fn list(&mut self, list: &CredentialList) -> u64
+        requires fit { AreFit list.now }
+        requires one { length list.now ≡ 1 }
+        ensures one { result ≤ 1 }
+        ensures grown { Extends (Self.history self.old) (Self.history self.new) }
+        ensures count { length (Self.history self.new) ≡ length (Self.history self.old) + result };
+}
+
+impl<D: Disk + Drop> Lister for Desk<D> {
+    fn list(&mut self, list: &CredentialList) -> u64 {
+        match self.enlist(list, NOW) {
+            Listing::Done { .. } => 1,
+            _ => 0,
+        }
     }
 }
 
-// The same in a turn of a seat: so many places more are the seat's.
-fn enlist_in_turn<D: Disk + Drop, R: Wait>(
+// Lists one in a turn of a seat: so many places more are the seat's.
+fn list_in_turn<T: Lister, R: Wait>(
     rt: &R,
-    stile: &Turnstile<Desk<D>>,
-    seat: &mut Seat<Desk<D>>,
+    stile: &Turnstile<T>,
+    seat: &mut Seat<T>,
     list: &CredentialList,
 ) -> u64
     requires own { seat.old.table_id ≡ stile.now.table.shared.table_id }
@@ -66,19 +76,19 @@ fn enlist_in_turn<D: Disk + Drop, R: Wait>(
     ensures mine { length seat.new.me.0.mine ≡ length seat.old.me.0.mine + result }
 {
     let mut desk = stile.enter(rt, seat);
-    let count = enlist(&mut desk, list);
+    let count = desk.list(list);
     stile.leave(seat, desk);
     count
 }
 
 // Lists a hundred references that begin with a letter, each in a turn of its own, and tells how many places the seat gained.
-fn enlist_hundred<D: Disk + Drop, R: Wait>(
+fn list_hundred<T: Lister, R: Wait>(
     rt: &R,
     alloc: Global,
-    stile: &Turnstile<Desk<D>>,
-    mut seat: Seat<Desk<D>>,
+    stile: &Turnstile<T>,
+    mut seat: Seat<T>,
     letter: u8,
-) -> (u64, Seat<Desk<D>>)
+) -> (u64, Seat<T>)
     requires own { seat.table_id ≡ stile.now.table.shared.table_id }
     requires rests { Rests seat.me }
     requires letter { letter < 128 }
@@ -90,29 +100,56 @@ fn enlist_hundred<D: Disk + Drop, R: Wait>(
     let mut places = 0;
     for number in 0..100u8 {
         if let Ok(list) = reference(alloc, letter, number) {
-            places += enlist_in_turn(rt, stile, &mut seat, &list);
+            places += list_in_turn(rt, stile, &mut seat, &list);
         }
     }
     (places, seat)
 }
 
-// Two seats list a hundred references each. Tells how many places each gained, and how many changes stand then.
-fn enlist_by_two<R: Wait>(rt: &R, alloc: Global, desk: Desk<MemDisk>) -> Option<(u64, u64, u64)> {
-    let Ok((stile, mut first)) = Turnstile::new(alloc, desk, 2) else {
+// Two threads list a hundred references each, by a seat that counts for two. Tells how many places each gained.
+fn list_by_two<T: Lister + Send, R: Threads + Wait + Sync>(
+    rt: &R,
+    alloc: Global,
+    stile: &Turnstile<T>,
+    mut first: Seat<T>,
+) -> (u64, u64, Seat<T>)
+    requires own { first.table_id ≡ stile.now.table.shared.table_id }
+    requires rests { Rests first.me }
+    requires none { length first.me.0.mine ≡ 0 }
+    requires two { first.me.0.share ≡ 2 }
+    ensures own { result.2.table_id ≡ first.table_id }
+    ensures rests { Rests result.2.me }
+    ensures share { result.2.me.0.share ≡ 2 }
+    ensures mine { length result.2.me.0.mine ≡ result.0 + result.1 }
+{
+    let second = stile.split(&mut first);
+    let ((by_first, mut first), (by_second, second)) = join(
+        rt,
+        move || list_hundred(rt, alloc, stile, first, b'a'),
+        move || list_hundred(rt, alloc, stile, second, b'b'),
+    );
+    stile.join(&mut first, second);
+    (by_first, by_second, first)
+}
+
+// What two threads listed at a desk: how many places each seat gained, and how many changes stand then.
+fn listed_by_two<R: Threads + Wait + Sync>(
+    rt: &R,
+    alloc: Global,
+    desk: Desk<MemDisk>,
+) -> Option<(u64, u64, u64)> {
+    let Ok((stile, seat)) = Turnstile::new(alloc, desk, 2) else {
         return None;
     };
-    let second = stile.split(&mut first);
-    let (by_first, mut first) = enlist_hundred(rt, alloc, &stile, first, b'a');
-    let (by_second, second) = enlist_hundred(rt, alloc, &stile, second, b'b');
-    stile.join(&mut first, second);
-    let desk = stile.close(first);
-    Some((by_first, by_second, desk.length()))
+    let (first, second, seat) = list_by_two(rt, alloc, &stile, seat);
+    let desk = stile.close(seat);
+    Some((first, second, desk.length()))
 }
 
 #[test]
-fn two_seats_list_a_hundred_each(rt: HostRuntime) -> Result<(), Fail> {
+fn two_threads_list_a_hundred_each(rt: HostRuntime) -> Result<(), Fail> {
     let desk = mounted(rt.alloc(), FOUNDED)?;
-    let told = enlist_by_two(&rt, rt.alloc(), desk);
+    let told = listed_by_two(&rt, rt.alloc(), desk);
     assert!(rt; told == Some((100, 100, 201)));
     Ok(())
 }

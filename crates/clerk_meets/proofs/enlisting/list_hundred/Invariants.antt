@@ -1,6 +1,6 @@
 use Rattle.std.proofs.Common.{◌≡◌, ◌+◌, ◌≤◌, length}
 use Rattle.turnstile.specs.Steps.{Rests}
-use Rattle.clerk_meets.proofs.enlisting.enlist_hundred.Given as goal
+use Rattle.clerk_meets.proofs.enlisting.list_hundred.Given as goal
 
 -- the seat rests, and has gained as many places as were counted
 abbrev pub invariant-loop-number : goal.invariant-loop-number
