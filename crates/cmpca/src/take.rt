@@ -194,8 +194,6 @@ fn read_request<S: Source, K: Source>(
     ensures octets { IfOk result (λ r. IfSome (S.left input.old) (λ all. r.octets.items ≡ take (message_limit + 1) all)) }
     ensures bound { IfOk result (λ r. length r.octets.items ≤ message_limit + 1) }
     ensures unread { IfErr result (IsWhyUntaken (K.left key.old) settings.now) }
-    // The input isn't read where the key file gives no keys.
-    ensures untouched { (file : List ℕ) → K.left key.old ≡ Some file → ((keys : Loaded) → reply_maker.Gives file settings.now (Ok keys) → ⊥) → input.new ≡ input.old }
     ensures input_fault { result ≡ Err Untaken.ReadFault → Rose (S.faults input.old) (S.faults input.new) }
     ensures key_fault { result ≡ Err (Untaken.Keyless KeyFault.ReadFault) → Rose (K.faults key.old) (K.faults key.new) }
 {

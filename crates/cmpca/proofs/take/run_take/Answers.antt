@@ -1,7 +1,11 @@
 -- The reply is by the mount, by why there is no message, or by what the front answered.
-use Rattle.std.proofs.Common.{rules, refl, MutBor}
+use Rattle.std.proofs.Common.{◌≡◌, inl, inr, rules, refl, sym, ◌∙◌, MutBor}
 use Rattle.cmpca.proofs.TakeLemmas.{untaken_run, unread_run, taken_run, own_settings}
+use Rattle.cmpca.specs.declared.status.Status.TheVariants as status
 use Rattle.cmpca.proofs.take.run_take.Goals as goal
+
+no_write : status.WriteFault ≡ status.ReadFault → ⊥
+no_write e = cc e
 
 pub answer_on-taken-requires-clause-settings : goal.answer_on-taken-requires-clause-settings
 answer_on-taken-requires-clause-settings g c =
@@ -28,3 +32,9 @@ returns-in-Err-read_request-clause-ran g c =
     _ c.in-Ok.desk.disk _ _ _ _ c.in-Ok.desk.history.items c.settings_at.result.now c.in-Err-read_request.untaken _ _ _ _ _
     (search rules) c.in-Ok.ensures.told c.in-Ok.ensures.same c.in-Ok.ensures.crash c.in-Ok.ensures.moments (refl, refl)
     c.settings_at.ensures.same c.in-Err-read_request.ensures.unread c.finish_untaken.ensures.replied
+
+pub returns-in-Ok-read_request-clause-read_fault : goal.returns-in-Ok-read_request-clause-read_fault
+returns-in-Ok-read_request-clause-read_fault g c = λ e. inr (elim c.finish_taken.ensures.wrote [
+  | inl w ↦ c.answer_on-taken.ensures.entropy_fault (sym w.0 ∙ e)
+  | inr w ↦ absurd (no_write (sym w.0 ∙ e))
+])
