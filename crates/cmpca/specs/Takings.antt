@@ -1,5 +1,5 @@
 -- What the parts of take tell each other: working tools of the proofs. What take does stands in Takes.
-use Rattle.std.specs.Prelude.{ℕ, ◌≡◌, ◌⊎◌, List, [], Option, Some, None, IfSome, Ok, Err, codes}
+use Rattle.std.specs.Prelude.{ℕ, ◌≡◌, ◌⊎◌, Bool, true, false, List, [], Option, Some, None, IfSome, Ok, Err, codes}
 use Rattle.cmp_ports.specs.declared.note.Answered.{Answered}
 use Rattle.cmp_ports.specs.declared.note.Answered.TheVariants as answered
 use Rattle.cmp_ports.specs.declared.note.Outcome.{Outcome}
@@ -34,6 +34,11 @@ abbrev pub IsWhyUntaken : Option (List ℕ) → Settings → Untaken → Type 0
 IsWhyUntaken left s (untaken.Keyless fault) = IsLoad left s (Err fault)
 IsWhyUntaken left s untaken.ReadFault = (keys : Loaded) × IsLoad left s (Ok keys)
 IsWhyUntaken left s untaken.NoMemory = (keys : Loaded) × IsLoad left s (Ok keys)
+
+-- whether it is for want of keys
+abbrev pub is_keyless : Untaken → Bool
+is_keyless (untaken.Keyless fault) = true
+is_keyless _ = false
 
 -- the reply then
 abbrev pub IsUntakenReply : Untaken → Status → List ℕ → Type 0

@@ -9,7 +9,6 @@ mod ending;
 mod enlist;
 mod file;
 mod init;
-mod lent_clerk;
 mod order;
 mod reply;
 mod show;

@@ -1,5 +1,5 @@
 //! The command that answers one message.
-ghost use Rattle.std.specs.Prelude.{◌≡◌, ◌≢◌, ◌⊎◌, ◌+◌, ◌≤◌, ◌++◌, ℕ, List, length, take, None, IfOk, IfErr, IfSome, OnOk};
+ghost use Rattle.std.specs.Prelude.{◌≡◌, ◌≢◌, ◌⊎◌, ◌+◌, ◌≤◌, ◌++◌, ℕ, List, length, take, None, IfOk, IfErr, IfSome, OnOk, true, false};
 ghost use Rattle.hex.specs.Hex.{encode_lower};
 ghost use Rattle.cmp_ports.specs.Coming.{Gives};
 ghost use Rattle.cmp_ports.specs.Disk.{LeavesOnly};
@@ -13,18 +13,18 @@ ghost use Rattle.reply_maker.specs.Replies.{replier_of};
 ghost use Rattle.cmpca.specs.Lines.{line};
 ghost use Rattle.cmpca.specs.Changes.{run_of};
 ghost use Rattle.cmpca.specs.Takes.{IsTakeReply, whole_identity, mismatch_lines};
-ghost use Rattle.cmpca.specs.Takings.{IsKeyReply, IsWhyUntaken, IsUntakenReply, IsAnswering, device_status, outcome_status, taken_status, taken_text};
+ghost use Rattle.cmpca.specs.Status.{tells_bad_keys};
+ghost use Rattle.cmpca.specs.Takings.{IsKeyReply, IsWhyUntaken, is_keyless, IsUntakenReply, IsAnswering, device_status, outcome_status, taken_status, taken_text};
 ghost use Rattle.cmpca.specs.Reply.{Wrote, Replied, RanKeyed};
 
 use crate::ending::{disk_of, finish, finish_unmounted, no_memory};
-use crate::lent_clerk::LentClerk;
 use crate::status::{Identity, Status};
 use cmp_ports::{
     Answered, Answerer, Clock, Disk, Entropy, Gate, Octets, Outcome, Point, ReadError, Sink,
     Source, read_up_to,
 };
 use deal_model::{Change, Settings};
-use desk::Desk;
+use desk::{Desk, SoleClerk};
 use desk_laws::at_most_one_answer;
 use front::{Device, Front};
 use pki_message::MESSAGE_LIMIT;
@@ -133,6 +133,7 @@ fn finish_keyless<W: Sink>(alloc: Global, fault: KeyFault, out: &mut W) -> Statu
 fn device_status(failed: Option<Device>) -> Status
     ensures status { result ≡ device_status failed }
     ensures no_write { result ≢ Status.WriteFault }
+    ensures keyed { tells_bad_keys result ≡ false }
 {
     match failed {
         Some(Device::Entropy) => Status::ReadFault,
@@ -144,6 +145,7 @@ fn device_status(failed: Option<Device>) -> Status
 fn outcome_status(outcome: Outcome, failed: Option<Device>) -> Status
     ensures status { result ≡ outcome_status outcome failed }
     ensures no_write { result ≢ Status.WriteFault }
+    ensures keyed { tells_bad_keys result ≡ false }
 {
     match outcome {
         Outcome::Done | Outcome::Again => Status::Done,
@@ -157,6 +159,7 @@ fn finish_taken<W: Sink>(taken: &Taken, out: &mut W) -> Status
     requires { taken.now.answered ≢ Answered.Failed }
     ensures wrote { Wrote (W.written out.old) (W.written out.new) (taken_status taken.now.answered taken.now.failed) (taken_text taken.now.answered taken.now.reply) result }
     ensures write_fault { result ≡ Status.WriteFault → Rose (W.faults out.old) (W.faults out.new) }
+    ensures keyed { tells_bad_keys result ≡ false }
 {
     match taken.answered {
         Answered::Replied(note) => finish(
@@ -194,6 +197,7 @@ fn read_request<S: Source, K: Source>(
     ensures octets { IfOk result (λ r. IfSome (S.left input.old) (λ all. r.octets.items ≡ take (message_limit + 1) all)) }
     ensures bound { IfOk result (λ r. length r.octets.items ≤ message_limit + 1) }
     ensures unread { IfErr result (IsWhyUntaken (K.left key.old) settings.now) }
+    ensures untouched { IfErr result (λ untaken. is_keyless untaken ≡ true → input.new ≡ input.old) }
     ensures input_fault { result ≡ Err Untaken.ReadFault → Rose (S.faults input.old) (S.faults input.new) }
     ensures key_fault { result ≡ Err (Untaken.Keyless KeyFault.ReadFault) → Rose (K.faults key.old) (K.faults key.new) }
 {
@@ -214,6 +218,7 @@ fn finish_untaken<W: Sink>(alloc: Global, untaken: Untaken, out: &mut W) -> Stat
     ensures write_fault { result ≡ Status.WriteFault → Rose (W.faults out.old) (W.faults out.new) }
     ensures read_fault { result ≡ Status.ReadFault → (untaken ≡ Untaken.ReadFault) ⊎ (untaken ≡ Untaken.Keyless KeyFault.ReadFault) }
     ensures no_disk { result ≢ Status.DiskFault }
+    ensures keyless { tells_bad_keys result ≡ true → is_keyless untaken ≡ true }
 {
     match untaken {
         Untaken::Keyless(fault) => finish_keyless(alloc, fault, out),
@@ -240,7 +245,7 @@ fn answer_on<F: Disk, C: Clock, E: Entropy>(
     ensures loan { F.loan desk.new.disk ≡ F.loan desk.old.disk }
 {
     let mut reply = Octets::empty(alloc);
-    let clerk = LentClerk::new(desk);
+    let clerk = SoleClerk::new(desk);
     let mut front = Front::new(
         alloc,
         &request.keys,
@@ -274,6 +279,7 @@ pub fn run_take<D: Disk, S: Source, K: Source, C: Clock, E: Entropy, W: Sink>(
     out: &mut W,
 ) -> Status
     ensures ran { RanKeyed (S.left input.old) (K.left key.old) (IsTakeReply (run_of D.content D.images D.moment D.left_since disk.old disk.new) ((clock.new ≡ clock.old) × (entropy.new ≡ entropy.old)) (Gives (C.readings clock.old) (C.readings clock.new)) (Gives (E.draws entropy.old) (E.draws entropy.new))) (W.written out.old) (W.written out.new) result }
+    ensures untouched { tells_bad_keys result ≡ true → input.new ≡ input.old }
     ensures write_fault { result ≡ Status.WriteFault → Rose (W.faults out.old) (W.faults out.new) }
     ensures read_fault { result ≡ Status.ReadFault → (Rose (S.faults input.old) (S.faults input.new) ⊎ Rose (K.faults key.old) (K.faults key.new)) ⊎ Rose (E.faults entropy.old) (E.faults entropy.new) }
     ensures disk_fault { result ≡ Status.DiskFault → Rose (D.faults disk.old) (D.faults disk.new) }

@@ -1,10 +1,11 @@
 //! The top call: a run of the program from its words, its streams and its disk to its status.
-ghost use Rattle.std.specs.Prelude.{◌≡◌, ◌≢◌, ◌⊎◌, ◌≤◌, ℕ, List, Option, Some, false, map, string_bytes};
+ghost use Rattle.std.specs.Prelude.{◌≡◌, ◌≢◌, ◌⊎◌, ◌≤◌, ℕ, List, Option, Some, true, false, map, string_bytes};
 ghost use Rattle.cmp_ports.specs.Coming.{Gives};
 ghost use Rattle.cmp_ports.specs.Disk.{Among, LeavesOnly};
 ghost use Rattle.cmp_ports.specs.Faults.{Rose};
 ghost use Rattle.cmpca.specs.Words.{command_of, reads_input, reads_key, draws_words, reads_disk, changes_history};
 ghost use Rattle.cmpca.specs.Changes.{run_of};
+ghost use Rattle.cmpca.specs.Status.{tells_bad_keys};
 ghost use Rattle.cmpca.specs.Reply.{IsVerifyReply, IsShowReply, IsReply, Replied, Ran, RanKeyed};
 
 use crate::check::check;
@@ -86,6 +87,9 @@ pub fn run_tool<D: Disk, S: Source, K: Source, C: Clock, E: Entropy, W: Sink>(
     ensures key { reads_key (command_of (map string_bytes words.now)) ≡ false → key.new ≡ key.old }
     ensures clock { changes_history (command_of (map string_bytes words.now)) ≡ false → clock.new ≡ clock.old }
     ensures unread { reads_input (command_of (map string_bytes words.now)) ≡ false → input.new ≡ input.old }
+
+    // `take`, which alone draws words, doesn't read its message where the key file isn't one or is another authority's.
+    ensures untouched { draws_words (command_of (map string_bytes words.now)) ≡ true → tells_bad_keys result ≡ true → input.new ≡ input.old }
     ensures unmounted { reads_disk (command_of (map string_bytes words.now)) ≡ false → disk.new ≡ disk.old }
 
     // Unless the command is one that changes the history, the disk holds what it held, and a stop at any moment leaves an image

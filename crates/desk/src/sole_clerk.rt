@@ -30,6 +30,14 @@ impl<'a, D: Disk> SoleClerk<'a, D> {
         let opening = desk.length();
         SoleClerk { desk, opening }
     }
+
+    /// The lent desk, as the last call left it.
+    pub fn into_desk(self) -> &'a mut Desk<D>
+        ensures now { result.now ≡ self.entry.desk.now }
+        ensures loan { result.ghost_name ≡ self.entry.desk.ghost_name }
+    {
+        self.desk
+    }
 }
 
 impl<'a, D: Disk> Clerk for SoleClerk<'a, D> {

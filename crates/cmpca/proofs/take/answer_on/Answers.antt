@@ -13,7 +13,7 @@ returns-clause-answering g c =
     let n = c.answer-answered.new.self in
     let f = c.new-front.result in
     moved g.F.Disk g.C.Clock.readings g.E.Entropy.draws (replier_by f.keys.now) _ c.as_slice.result.now _
-    f.clerk.desk.now c.args.desk.now n.clerk.desk.now c.desk-1.given.0 f.clock.now c.args.clock.now n.clock.now _ f.entropy.now c.args.entropy.now n.entropy.now _
+    f.clerk.desk.now c.args.desk.now n.clerk.desk.now _ f.clock.now c.args.clock.now n.clock.now _ f.entropy.now c.args.entropy.now n.entropy.now _
     c.answer-answered.result n.failed c.failed-failed.result c.answer-answered.new.reply
     (ap replier_by c.new-front.ensures.keys)
     c.as_slice.ensures.value
@@ -35,7 +35,7 @@ returns-clause-disk_fault g c = λ e.
     let n = c.answer-answered.new.self in
     let f = c.new-front.result in
     let loan = held_loan _ _ a.goes.held in
-    rose_disk g.F.Disk g.C.Clock.readings g.E.Entropy.draws f.clerk.desk.now c.args.desk.now n.clerk.desk.now c.desk-1.given.0
+    rose_disk g.F.Disk g.C.Clock.readings g.E.Entropy.draws f.clerk.desk.now c.args.desk.now n.clerk.desk.now _
     (search (rules, c.new-front.ensures.clerk, c.new-clerk.ensures.desk))
     (search (rules, loan, c.new-front.ensures.clerk, c.new-clerk.ensures.loan, c.into_parts-clerk.ensures.clerk, c.into_desk-desk.ensures.now, c.into_desk-desk.ensures.loan))
     (fell_disk _ _ _ _ _ _ _ _ a (ap (taken_status c.answer-answered.result) (sym c.failed-failed.ensures) ∙ e))
@@ -56,7 +56,7 @@ returns-clause-loan g c =
     let n = c.answer-answered.new.self in
     let f = c.new-front.result in
     let loan = held_loan _ _ a.goes.held in
-    same_loan g.F.Disk g.C.Clock.readings g.E.Entropy.draws f.clerk.desk.now c.args.desk.now n.clerk.desk.now c.desk-1.given.0
+    same_loan g.F.Disk g.C.Clock.readings g.E.Entropy.draws f.clerk.desk.now c.args.desk.now n.clerk.desk.now _
     (search (rules, c.new-front.ensures.clerk, c.new-clerk.ensures.desk))
     (search (rules, loan, c.new-front.ensures.clerk, c.new-clerk.ensures.loan, c.into_parts-clerk.ensures.clerk, c.into_desk-desk.ensures.now, c.into_desk-desk.ensures.loan))
     (held_disk _ _ a.goes.held)
