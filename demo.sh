@@ -1,5 +1,6 @@
 #!/usr/bin/env bash
-# Builds cmpca and shows its answers: one message that verifies, one refusal of each kind, a journal, and an authority that is founded.
+# Builds cmpca and shows its answers: one message that verifies, one refusal of each kind, a journal, and an authority that is founded,
+# whose devices enrol, renew, wait for an order and give a certificate up.
 # Safe to run twice; nothing is left behind. Ends with status 1 where an answer isn't the one told.
 set -euo pipefail
 
@@ -114,13 +115,19 @@ kind = "mac"
 reference = "dev-1"
 secret = "7365637265742d31"
 rights = ["enrol"]
+[[credential]]
+kind = "mac"
+reference = "dev-2"
+secret = "7365637265742d32"
+rights = ["enrol"]
+hold = true
 DEVICES
 )
 show "A key file of 95 octets" "$settings" "bad key file" 10 journal short init
 show "Settings and a key file found an authority" \
     "$settings" "$(python3 "$top/tests/vectors/init_vectors.py" key)" 0 journal key init
 show "A journal is founded once" "$settings" "refused already founded" 1 journal key init
-show "The credential of a device" "$devices" "enlisted 1" 0 journal key enlist
+show "The credentials of two devices, of which the second has to wait" "$devices" "enlisted 2" 0 journal key enlist
 show "How it stands" "" "changes 2
 issue 2 of 32
 reply 0 of 32" 0 journal key show
@@ -151,5 +158,46 @@ show "How it stands" "" "changes 4
 issue 3 of 32
 reply 0 of 32
 cert 3 confirmed 000102030405060708090a0b0c0d0e0f" 0 journal key show
+
+device renew
+take "The device asks for a second key under the first one's signature (kur), and gets a certificate (kup)" kur.der 0 kup.der
+device renewed
+show "How it stands" "" "changes 5
+issue 4 of 32
+reply 1 of 32
+cert 3 confirmed 000102030405060708090a0b0c0d0e0f
+cert 4 confirmed 101112131415161718191a1b1c1d1e1f" 0 journal key show
+
+device ask
+take "The second device asks (cr), and has to wait (cp, waiting)" cr.der 0 waiting.der
+device poll
+take "It asks how it stands (pollReq), and has to wait (pollRep)" pollreq.der 0 pollrep.der
+device again
+show "How it stands" "" "changes 7
+issue 4 of 32
+reply 1 of 32
+cert 3 confirmed 000102030405060708090a0b0c0d0e0f
+cert 4 confirmed 101112131415161718191a1b1c1d1e1f
+held 202122232425262728292a2b2c2d2e2f" 0 journal key show
+show "The operator releases the request" "" "released" 0 journal key release 202122232425262728292a2b2c2d2e2f
+show "A request is released once" "" "refused not held" 1 journal key release 202122232425262728292a2b2c2d2e2f
+take "The second device asks once more (pollReq), and gets its certificate (cp)" again.der 0 cp.der
+device fetch
+show "How it stands" "" "changes 9
+issue 5 of 32
+reply 1 of 32
+cert 3 confirmed 000102030405060708090a0b0c0d0e0f
+cert 4 confirmed 101112131415161718191a1b1c1d1e1f
+cert 5 confirmed 202122232425262728292a2b2c2d2e2f" 0 journal key show
+
+device revoke
+take "The first device gives its first certificate up (rr), as superseded, and is heard (rp)" rr.der 0 rp.der
+device revoked
+show "How it stands" "" "changes 10
+issue 5 of 32
+reply 1 of 32
+cert 3 revoked 4 000102030405060708090a0b0c0d0e0f
+cert 4 confirmed 101112131415161718191a1b1c1d1e1f
+cert 5 confirmed 202122232425262728292a2b2c2d2e2f" 0 journal key show
 
 exit $failed

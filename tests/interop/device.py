@@ -1,170 +1,152 @@
-"""A device in Python's hashlib, hmac and os alone, which enrols under a shared secret step by step, in a folder of files.
+"""Devices in Python's hashlib, hmac and os alone, whose messages and keys stand in a folder of files.
 
-Words: the step and the folder. `request` writes ir.der, for a new HSS/LMS key; `confirm` reads ip.der, checks its MAC and the
-certificate's signature, and writes certconf.der; `done` reads pkiconf.der and checks its MAC. Each says what it did, and ends with
-status 1 where a check fails. DER is written by X.690, messages by RFC 9810 and RFC 4211, signatures by RFC 8554.
+Words: the step and the folder. Device 1 enrols under a shared secret: `request` writes ir.der, for a new HSS/LMS key; `confirm` reads
+ip.der, checks its MAC and the certificate's signature, and writes certconf.der; `done` reads pkiconf.der. Then `renew` writes
+kur.der, for a second key under a signature of the first; `renewed` reads kup.der and checks its signature and the certificate.
+Device 2 has to wait: `ask` writes cr.der; `poll` reads waiting.der and writes pollreq.der; `again` reads pollrep.der and writes
+again.der; `fetch` reads cp.der. At last device 1 gives its first certificate up: `revoke` writes rr.der, `revoked` reads rp.der. Each
+says what it did, and ends with status 1 where a check fails.
 """
 
-import hashlib
-import hmac
 import os
 import sys
-import time
 
-sys.path.insert(0, os.path.join(os.path.dirname(os.path.abspath(__file__)), "..", "vectors"))
-from check_lms import hss_ok, public_key, sign_tree, u32  # noqa: E402
+from cmp_messages import (
+    AUTHORITY, CR, IR, KUR, NULL, Key, Reply, Secret, confirmation, confirmations, directory_name, enrolment, integer, issued, items,
+    message, oid, polls, reason, revocation, revocations, sequence, serial_of, signed_by, u32)
 
-SECRET = b"secret-1"
-REFERENCE = b"dev-1"
-TRANSACTION = bytes(range(16))
-ROUNDS = 1000
-
-
-def der(tag, *parts):
-    content = b"".join(parts)
-    size = len(content)
-    if size < 128:
-        return bytes([tag, size]) + content
-    octets = size.to_bytes((size.bit_length() + 7) // 8, "big")
-    return bytes([tag, 128 + len(octets)]) + octets + content
+DEVICE_1, DEVICE_2 = Secret("dev-1", b"secret-1", 1000), Secret("dev-2", b"secret-2", 1000)
+ENROLMENT, RENEWAL, WAITING, REVOCATION = (bytes(range(start, start + 16)) for start in (0x00, 0x10, 0x20, 0x30))
+IMPLICIT = sequence(sequence(oid("1.3.6.1.5.5.7.4.13"), NULL))
+SUPERSEDED = 4
 
 
-def oid(text):
-    first, second, *arcs = map(int, text.split("."))
-    content = bytes([40 * first + second])
-    for arc in arcs:
-        septets = [arc & 127]
-        while arc := arc >> 7:
-            septets.append(128 | (arc & 127))
-        content += bytes(reversed(septets))
-    return der(0x06, content)
+class Folder:
+    """Files by their names. A key's file is its seed, its identifier and the number of leaves that signed."""
+
+    def __init__(self, path):
+        self.path = path
+
+    def read(self, name):
+        with open(os.path.join(self.path, name), "rb") as file:
+            return file.read()
+
+    def write(self, name, octets):
+        with open(os.path.join(self.path, name), "wb") as file:
+            file.write(octets)
+
+    def key(self, name):
+        octets = self.read(f"{name}.key")
+        return new_key(octets[:32], octets[32:48], int.from_bytes(octets[48:], "big"))
+
+    def keep(self, name, key):
+        self.write(f"{name}.key", key.parts[2] + key.parts[3] + u32(key.used))
+
+    def send(self, name, sent):
+        self.write(name, sent.octets)
+        return True
 
 
-def common_name(text):
-    return der(0x30, der(0x31, der(0x30, oid("2.5.4.3"), der(0x0C, text.encode()))))
+def new_key(seed=None, identifier=None, used=0):
+    """A key of height 5 and w = 8."""
+    return Key("device", ots=4, seed=seed, identifier=identifier, used=used)
 
 
-NULL = der(0x05)
-DEVICE, AUTHORITY = common_name("device-1"), common_name("Fleet CA")
-HSS_LMS = der(0x30, oid("1.2.840.113549.1.9.16.3.17"))
-HMAC_SHA256 = der(0x30, oid("1.2.840.113549.2.9"), NULL)
-
-
-def first(octets):
-    """The first element's tag, content and whole octets, and what follows it."""
-    start, size = 2, octets[1]
-    if size > 127:
-        start = 2 + size - 128
-        size = int.from_bytes(octets[2:start], "big")
-    return octets[0], octets[start : start + size], octets[: start + size], octets[start + size :]
-
-
-def items(content):
-    found = []
-    while content:
-        tag, inside, whole, content = first(content)
-        found.append((tag, inside, whole))
-    return found
-
-
-def pbmac1(salt):
-    derivation = der(0x30, oid("1.2.840.113549.1.5.12"), der(0x30, der(0x04, salt), der(0x02, ROUNDS.to_bytes(2, "big")), HMAC_SHA256))
-    return der(0x30, oid("1.2.840.113549.1.5.14"), der(0x30, derivation, HMAC_SHA256))
-
-
-def mac(salt, header, body):
-    key = hashlib.pbkdf2_hmac("sha256", SECRET, salt, ROUNDS)
-    return hmac.new(key, der(0x30, header, body), "sha256").digest()
-
-
-def message(body, nonce, received=None):
-    salt = os.urandom(16)
-    now = time.strftime("%Y%m%d%H%M%SZ", time.gmtime()).encode()
-    header = der(
-        0x30, der(0x02, b"\x02"), der(0xA4, DEVICE), der(0xA4, AUTHORITY), der(0xA0, der(0x18, now)), der(0xA1, pbmac1(salt)),
-        der(0xA2, der(0x04, REFERENCE)), der(0xA4, der(0x04, TRANSACTION)), der(0xA5, der(0x04, nonce)),
-        der(0xA6, der(0x04, received)) if received else b"")
-    return der(0x30, header, body, der(0xA0, der(0x03, b"\0", mac(salt, header, body))))
+def ask_for(key):
+    """An ir for a certificate over this key, which signs the request."""
+    return message(DEVICE_1, enrolment(IR, key), tid=ENROLMENT)
 
 
 def request():
-    """An ir for a new key of height 5 and w = 8, which signs the request with its first leaf."""
-    seed, identifier = os.urandom(32), os.urandom(16)
-    key = u32(1) + public_key(5, 4, seed, identifier)
-    info = der(0x30, HSS_LMS, der(0x03, b"\0", key))
-    template = der(0x30, der(0xA5, DEVICE), der(0xA6, first(info)[1]))
-    asked = der(0x30, der(0x02, b"\0"), template)
-    proof = der(0xA1, HSS_LMS, der(0x03, b"\0", u32(0) + sign_tree(5, 4, seed, identifier, 0, asked)))
-    return message(der(0xA0, der(0x30, der(0x30, asked, proof))), os.urandom(16))
+    """An ir for a new key, in octets."""
+    return ask_for(new_key()).octets
 
 
-class Reply:
-    """A reply whose MAC holds: the fields of its header by their tags, and its body."""
-
-    def __init__(self, octets):
-        (_, header, whole_header), (self.tag, self.body, whole_body), (_, bits, _) = items(first(octets)[1])
-        self.fields = {tag: first(content)[1] for tag, content, _ in items(header)[3:]}
-        salt = items(items(items(self.fields[0xA1])[1][1])[0][1])[1][1]
-        self.holds = hmac.compare_digest(first(bits)[1][1:], mac(items(salt)[0][1], whole_header, whole_body))
-
-
-def certificates(body):
-    """The authority's certificate and the one that is granted, of an ip."""
-    content = items(first(body)[1])
-    response = items(items(content[1][1])[0][1])
-    pair = items(response[2][1])
-    return items(first(content[0][1])[1])[0][2], first(pair[0][1])[2]
-
-
-def parts(certificate):
-    """Of a certificate the whole of what is signed, the fields of that, and the signature."""
-    signed, _, bits = items(first(certificate)[1])
-    return signed[2], items(signed[1]), bits[1][1:]
-
-
-def key_of(certificate):
-    return items(parts(certificate)[1][6][1])[1][1][1:]
-
-
-def confirm(ip):
-    """A certConf that accepts what an ip grants, whose certificate holds."""
-    reply = Reply(ip)
-    root, granted = certificates(reply.body)
-    text, fields, signature = parts(granted)
-    holds = reply.holds and hss_ok(key_of(root), text, signature)
-    print(f"  MAC of the ip {'holds' if reply.holds else 'FAILS'}; certificate with serial {int.from_bytes(fields[1][1], 'big')}, "
-          f"its signature {'holds' if holds else 'FAILS'}")
-    status = der(0x30, der(0x04, hashlib.sha256(granted).digest()), der(0x02, b"\0"))
-    return message(der(0xB8, der(0x30, status)), os.urandom(16), reply.fields[0xA5]) if holds else None
-
-
-def done(confirmation):
-    reply = Reply(confirmation)
-    holds = reply.holds and reply.tag == 0xB3
-    print(f"  pkiconf, its MAC {'holds' if holds else 'FAILS'}")
+def tell(what, holds):
+    print(f"  {what} {'holds' if holds else 'FAILS'}")
     return holds
 
 
-def main():
-    step, folder = sys.argv[1:]
+def tell_certificate(reply, root):
+    certificate = reply.certificate()
+    return tell(f"certificate with serial {serial_of(certificate)}, its signature", signed_by(certificate, root))
 
-    def read(name):
-        with open(os.path.join(folder, name), "rb") as file:
-            return file.read()
 
-    def write(name, octets):
-        with open(os.path.join(folder, name), "wb") as file:
-            file.write(octets or b"")
-        return bool(octets)
+def begin(folder):
+    key = new_key()
+    sent = ask_for(key)
+    folder.keep("first", key)
+    return folder.send("ir.der", sent)
 
-    if step == "request":
-        holds = write("ir.der", request())
-    elif step == "confirm":
-        holds = write("certconf.der", confirm(read("ip.der")))
-    else:
-        holds = done(read("pkiconf.der"))
-    return 0 if holds else 1
 
+def confirm(folder):
+    reply = Reply(folder.read("ip.der"))
+    holds = tell("MAC of the ip", reply.holds_under(DEVICE_1)) and tell_certificate(reply, reply.root())
+    accepts = confirmations(confirmation(reply.certificate(), status=0))
+    return holds and folder.send("certconf.der", message(DEVICE_1, accepts, tid=ENROLMENT, received=reply.fields[0xA5]))
+
+
+def done(folder):
+    reply = Reply(folder.read("pkiconf.der"))
+    return tell("pkiconf, its MAC", reply.tag == 0xB3 and reply.holds_under(DEVICE_1))
+
+
+def renew(folder):
+    first, second = folder.key("first"), new_key()
+    serial = serial_of(Reply(folder.read("ip.der")).certificate())
+    old = sequence(sequence(oid("1.3.6.1.5.5.7.5.1.5"), sequence(directory_name(AUTHORITY), integer(serial))))
+    sent = message(first, enrolment(KUR, second, controls=old), tid=RENEWAL, info=IMPLICIT)
+    folder.keep("first", first)
+    folder.keep("second", second)
+    return folder.send("kur.der", sent)
+
+
+def renewed(folder):
+    root, reply = Reply(folder.read("ip.der")).root(), Reply(folder.read("kup.der"))
+    return tell("signature of the kup", reply.tag == 0xA8 and reply.holds_by(root)) and tell_certificate(reply, root)
+
+
+def ask(folder):
+    key = new_key()
+    sent = message(DEVICE_2, enrolment(CR, key), tid=WAITING, info=IMPLICIT)
+    folder.keep("third", key)
+    return folder.send("cr.der", sent)
+
+
+def poll_after(folder, reply, name):
+    return folder.send(name, message(DEVICE_2, polls(0), tid=WAITING, received=reply.fields[0xA5]))
+
+
+def poll(folder):
+    reply = Reply(folder.read("waiting.der"))
+    holds = tell("cp with the status waiting, its MAC", reply.status() == 3 and reply.holds_under(DEVICE_2))
+    return holds and poll_after(folder, reply, "pollreq.der")
+
+
+def again(folder):
+    reply = Reply(folder.read("pollrep.der"))
+    after = int.from_bytes(items(items(items(reply.body)[0][1])[0][1])[1][1], "big")
+    holds = tell(f"pollRep: to be asked again after {after} seconds, its MAC", reply.tag == 0xBA and reply.holds_under(DEVICE_2))
+    return holds and poll_after(folder, reply, "again.der")
+
+
+def fetch(folder):
+    root, reply = Reply(folder.read("ip.der")).root(), Reply(folder.read("cp.der"))
+    return tell("MAC of the cp", reply.tag == 0xA3 and reply.holds_under(DEVICE_2)) and tell_certificate(reply, root)
+
+
+def revoke(folder):
+    entry = revocation(*issued(serial_of(Reply(folder.read("ip.der")).certificate())), details=[reason(SUPERSEDED)])
+    return folder.send("rr.der", message(DEVICE_1, revocations(entry), tid=REVOCATION))
+
+
+def revoked(folder):
+    reply = Reply(folder.read("rp.der"))
+    return tell("rp, its MAC", reply.tag == 0xAC and reply.holds_under(DEVICE_1))
+
+
+STEPS = {"request": begin, "confirm": confirm, "done": done, "renew": renew, "renewed": renewed, "ask": ask, "poll": poll,
+         "again": again, "fetch": fetch, "revoke": revoke, "revoked": revoked}
 
 if __name__ == "__main__":
-    sys.exit(main())
+    sys.exit(0 if STEPS[sys.argv[1]](Folder(sys.argv[2])) else 1)

@@ -10,7 +10,7 @@ import shutil
 import subprocess
 import sys
 
-from device import hss_ok, key_of, parts
+from cmp_messages import signed_by
 
 SETTINGS = """name = "Fleet CA"
 issue_tree = 5
@@ -84,12 +84,6 @@ class Run:
             word, what = line.split(" ", 1)
             self.check(what, word == "agreed")
         self.check(f"{step}: {done.stderr}", done.returncode == 0)
-
-
-def signed_by(certificate, root):
-    """Whether a certificate's signature holds under the root's key, by RFC 8554 in Python."""
-    text, _, signature = parts(certificate)
-    return hss_ok(key_of(root), text, signature)
 
 
 def enrol(run):
