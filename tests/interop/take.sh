@@ -6,22 +6,12 @@ set -eu
 
 here=$(cd "$(dirname "$0")" && pwd)
 top=$(cd "$here/../.." && pwd)
-jars=${BCJARS:-/usr/share/java}
-path=$jars/bcpkix.jar:$jars/bcprov.jar:$jars/bcutil.jar
-for tool in python3 javac java; do
-    if ! command -v $tool >/dev/null; then
-        echo "skipped: no $tool"
-        exit 0
-    fi
-done
-if [ ! -e "$jars/bcpkix.jar" ] || [ ! -e "$jars/bcprov.jar" ] || [ ! -e "$jars/bcutil.jar" ]; then
-    echo "skipped: $jars has no bcpkix.jar, bcprov.jar and bcutil.jar (Debian's libbcpkix-java)"
-    exit 0
-fi
+. "$here/bouncy.sh"
 program=${1:-$("$top/bench/build.sh")} || exit 0
 
 work=$(mktemp -d)
 trap 'rm -rf "$work"' EXIT
-javac -cp "$path" -d "$work/classes" "$top/tests/vectors/java/TakeVectors.java" "$here/TakeClient.java"
+vectors=$top/tests/vectors/java
+javac -cp "$path" -d "$work/classes" "$vectors/Fixed.java" "$vectors/TakeVectors.java" "$here/TakeClient.java"
 mkdir "$work/run"
 python3 -B "$here/take.py" "$program" "$work/classes:$path" "$work/run"

@@ -51,7 +51,7 @@ trap 'rm -rf "$classes"' EXIT
 javac -cp "$path" -d "$classes" "$here/java/org/bouncycastle/pqc/crypto/lms/Inside.java" \
     "$here/java/LmsVectors.java" "$here/java/AsnVectors.java" "$here/java/CertVectors.java" \
     "$here/java/RequestVectors.java" "$here/java/HeaderVectors.java" "$here/java/MessageVectors.java" \
-    "$here/java/ProtectionVectors.java" "$here/java/TakeVectors.java" \
+    "$here/java/Fixed.java" "$here/java/ProtectionVectors.java" "$here/java/TakeVectors.java" \
     "$here/java/ReplyVectors.java" "$here/java/BodyVectors.java"
 java -Dstdout.encoding=UTF-8 -cp "$classes:$path" AsnVectors >"$out/asn.txt"
 java -cp "$classes:$path" CertVectors >"$out/certs.txt"

@@ -1,5 +1,4 @@
 import java.security.MessageDigest;
-import java.security.SecureRandom;
 import java.util.Date;
 import java.util.HexFormat;
 import org.bouncycastle.asn1.ASN1Encodable;
@@ -143,21 +142,5 @@ public final class ProtectionVectors {
 
     private static void show(String name, ASN1Encodable value) throws Exception {
         System.out.println(name + ": " + hex(value.toASN1Primitive().getEncoded("DER")));
-    }
-
-    /** Gives the seed and the identifier that are to be drawn. */
-    private static final class Fixed extends SecureRandom {
-        private final byte[][] draws;
-        private int next;
-
-        Fixed(byte[]... draws) {
-            this.draws = draws;
-        }
-
-        @Override
-        public void nextBytes(byte[] octets) {
-            System.arraycopy(draws[next], 0, octets, 0, octets.length);
-            next++;
-        }
     }
 }

@@ -1,7 +1,6 @@
 import java.io.IOException;
 import java.math.BigInteger;
 import java.security.MessageDigest;
-import java.security.SecureRandom;
 import java.time.Instant;
 import java.time.ZoneOffset;
 import java.time.format.DateTimeFormatter;
@@ -303,22 +302,6 @@ public final class TakeVectors {
 
         byte[] id() {
             return Arrays.copyOf(sha256(key), 20);
-        }
-    }
-
-    /** Gives the seed and the identifier that are to be drawn. */
-    private static final class Fixed extends SecureRandom {
-        private final byte[][] draws;
-        private int next;
-
-        Fixed(byte[]... draws) {
-            this.draws = draws;
-        }
-
-        @Override
-        public void nextBytes(byte[] octets) {
-            System.arraycopy(draws[next], 0, octets, 0, octets.length);
-            next++;
         }
     }
 }
