@@ -96,19 +96,7 @@ identifiers_differ() {
 until identifiers_differ; do head -c 96 /dev/urandom >key; done
 head -c 95 key >short
 hex() { od -An -v -tx1 | tr -d ' \n'; }
-settings=$(hex <<'SETTINGS'
-name = "Fleet CA"
-issue_tree = 5
-reply_tree = 5
-issue_ots = 4
-reply_ots = 4
-wait = 300
-skew = 300
-rounds = 1000
-check_after = 60
-days = 365
-SETTINGS
-)
+settings=$(hex <"$top/tests/interop/settings.toml")
 devices=$(hex <<'DEVICES'
 [[credential]]
 kind = "mac"

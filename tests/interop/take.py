@@ -12,17 +12,7 @@ import sys
 
 from cmp_messages import signed_by
 
-SETTINGS = """name = "Fleet CA"
-issue_tree = 5
-issue_ots = 4
-reply_tree = 5
-reply_ots = 4
-wait = 300
-skew = 300
-rounds = 1000
-check_after = 60
-days = 365
-"""
+SETTINGS = os.path.join(os.path.dirname(os.path.abspath(__file__)), "settings.toml")
 CREDENTIALS = """[[credential]]
 kind = "mac"
 reference = "dev-1"
@@ -88,7 +78,8 @@ class Run:
 
 def enrol(run):
     """The course of an enrolment, with a disk that fails once and a message with another recipNonce."""
-    status, text = run.cmpca(["init"], SETTINGS.encode())
+    with open(SETTINGS, "rb") as settings:
+        status, text = run.cmpca(["init"], settings.read())
     identity = text.decode().removeprefix("founded ").strip()
     run.check("init: founded and an identity", status == 0 and len(identity) == 192)
     run.check("enlist", run.cmpca(["enlist"], CREDENTIALS.encode()) == (0, b"enlisted 1\n"))
