@@ -24,6 +24,7 @@ fn keep_mark<D: Disk>(marks: &mut FaultMarks, desk: &mut Desk<D>)
 
 /// A clerk with a seat of its own at a turnstile, behind which a desk stands. Each call takes one turn, for which it waits, and
 /// between two calls the seat holds no turn. It keeps the marks of its desk's calls that failed at the disk.
+/// `shut` gives the seat back; the seat of a clerk that is dropped is lost, and the turnstile can't be closed then.
 #[derive(Drop)]
 pub struct SharedClerk<'a, D: Disk + Drop, R: Wait> {
     rt: &'a R,

@@ -5,3 +5,7 @@
 mod desks;
 #[cfg(test)]
 mod enlisting;
+#[cfg(test)]
+mod meeting;
+#[cfg(test)]
+mod requests;
