@@ -1,5 +1,5 @@
 -- How a run of take ends, by how the front answered over a desk of its own.
-use Rattle.std.proofs.Common.{◌≡◌, ◌⊎◌, inl, inr, ⊎_elim, ℕ, List, [], ◌∷◌, ◌++◌, Option, Some, None, refl, sym, ◌∙◌, ap, subst}
+use Rattle.std.proofs.Common.{◌≡◌, inl, inr, ⊎_elim, ℕ, List, [], ◌∷◌, ◌++◌, Option, Some, None, refl, sym, ◌∙◌, ap, subst}
 use Rattle.std.specs.Prelude.{IfSome, codes}
 use Rattle.cmp_ports.specs.Coming.{Gives}
 use Rattle.cmp_ports.specs.Disk.{LeavesOnly}
@@ -32,7 +32,6 @@ use Rattle.front.specs.declared.device.Device.{Device}
 use Rattle.cmpca.specs.Lines.{line}
 use Rattle.cmpca.specs.Takes.{EndsAs, Replies, Fails, RunsOut, OwnChange, Ends, EndsUndrawn, EndsBy}
 use Rattle.cmpca.specs.Takings.{outcome_status, taken_status, taken_text, IsAnswering}
-use Rattle.cmpca.specs.declared.status.Status.{Status}
 use Rattle.cmpca.specs.declared.status.Status.TheVariants.{Done, Refused, ReadFault, DiskFault}
 
 -- the status is that of what was decided
@@ -189,29 +188,32 @@ module _ {K C E : Type 0} (ks : clerks.Ghosts K) (cs : clocks.Ghosts C) (es : en
 -- ---- what was lent is back
 
 module _ {F C E : Type 0} (dg : disks.Ghosts F) (readings : C → Option (ℕ → ℕ)) (draws : E → Option (ℕ → Option (List ℕ))) where
-  abbrev Told : Replier → List ℕ → Desk F dg → Desk F dg → C → C → E → E → Answered → Option Device → List ℕ → Type 0
-  Told k b d0 d1 c0 c1 e0 e1 end failed reply = IsAnswering k b (λ now. Gives (readings c0) (readings c1) now) (λ draw. Gives (draws e0) (draws e1) draw) (λ P. LeavesOnly dg.moment dg.left_since d0.disk d1.disk P) d0.history.items d1.history.items d1.doubt (taken_status end failed) (taken_text end reply)
+  abbrev Told : Replier → List ℕ → Desk F dg → F → History → Option Change → C → C → E → E → Answered → Option Device → List ℕ → Type 0
+  Told k b d0 disk h doubt c0 c1 e0 e1 end failed reply = IsAnswering k b (λ now. Gives (readings c0) (readings c1) now) (λ draw. Gives (draws e0) (draws e1) draw) (λ P. LeavesOnly dg.moment dg.left_since d0.disk disk P) d0.history.items h doubt (taken_status end failed) (taken_text end reply)
 
-  pub moved : (k k' : Replier) (b b' : List ℕ) (d0 d0' d1 d1' : Desk F dg) (c0 c0' c1 c1' : C) (e0 e0' e1 e1' : E) (end : Answered) (failed failed' : Option Device) (reply : List ℕ)
-      → k ≡ k' → b ≡ b' → d0 ≡ d0' → d1 ≡ d1' → c0 ≡ c0' → c1 ≡ c1' → e0 ≡ e0' → e1 ≡ e1' → failed ≡ failed' → Told k b d0 d1 c0 c1 e0 e1 end failed reply → Told k' b' d0' d1' c0' c1' e0' e1' end failed' reply
-  moved k k' b b' d0 d0' d1 d1' c0 c0' c1 c1' e0 e0' e1 e1' end failed failed' reply pk pb pd0 pd1 pc0 pc1 pe0 pe1 pf t =
-      subst (λ (x : Replier). Told x b' d0' d1' c0' c1' e0' e1' end failed' reply) pk
-      (subst (λ (x : List ℕ). Told k x d0' d1' c0' c1' e0' e1' end failed' reply) pb
-      (subst (λ (x : Desk F dg). Told k b x d1' c0' c1' e0' e1' end failed' reply) pd0
-      (subst (λ (x : Desk F dg). Told k b d0 x c0' c1' e0' e1' end failed' reply) pd1
-      (subst (λ (x : C). Told k b d0 d1 x c1' e0' e1' end failed' reply) pc0
-      (subst (λ (x : C). Told k b d0 d1 c0 x e0' e1' end failed' reply) pc1
-      (subst (λ (x : E). Told k b d0 d1 c0 c1 x e1' end failed' reply) pe0
-      (subst (λ (x : E). Told k b d0 d1 c0 c1 e0 x end failed' reply) pe1
-      (subst (λ (x : Option Device). Told k b d0 d1 c0 c1 e0 e1 end x reply) pf t))))))))
+  pub moved : (k k' : Replier) (b b' : List ℕ) (d0 d0' d1 : Desk F dg) (disk : F) (h : History) (doubt : Option Change) (c0 c0' c1 c1' : C) (e0 e0' e1 e1' : E) (end : Answered) (failed failed' : Option Device) (reply : List ℕ)
+      → k ≡ k' → b ≡ b' → d0 ≡ d0' → d1.disk ≡ disk → d1.history.items ≡ h → d1.doubt ≡ doubt → c0 ≡ c0' → c1 ≡ c1' → e0 ≡ e0' → e1 ≡ e1' → failed ≡ failed'
+      → Told k b d0 d1.disk d1.history.items d1.doubt c0 c1 e0 e1 end failed reply → Told k' b' d0' disk h doubt c0' c1' e0' e1' end failed' reply
+  moved k k' b b' d0 d0' d1 disk h doubt c0 c0' c1 c1' e0 e0' e1 e1' end failed failed' reply pk pb pd0 pdisk ph pdoubt pc0 pc1 pe0 pe1 pf t =
+      subst (λ (x : Replier). Told x b' d0' disk h doubt c0' c1' e0' e1' end failed' reply) pk
+      (subst (λ (x : List ℕ). Told k x d0' disk h doubt c0' c1' e0' e1' end failed' reply) pb
+      (subst (λ (x : Desk F dg). Told k b x disk h doubt c0' c1' e0' e1' end failed' reply) pd0
+      (subst (λ (x : F). Told k b d0 x h doubt c0' c1' e0' e1' end failed' reply) pdisk
+      (subst (λ (x : History). Told k b d0 d1.disk x doubt c0' c1' e0' e1' end failed' reply) ph
+      (subst (λ (x : Option Change). Told k b d0 d1.disk d1.history.items x c0' c1' e0' e1' end failed' reply) pdoubt
+      (subst (λ (x : C). Told k b d0 d1.disk d1.history.items d1.doubt x c1' e0' e1' end failed' reply) pc0
+      (subst (λ (x : C). Told k b d0 d1.disk d1.history.items d1.doubt c0 x e0' e1' end failed' reply) pc1
+      (subst (λ (x : E). Told k b d0 d1.disk d1.history.items d1.doubt c0 c1 x e1' end failed' reply) pe0
+      (subst (λ (x : E). Told k b d0 d1.disk d1.history.items d1.doubt c0 c1 e0 x end failed' reply) pe1
+      (subst (λ (x : Option Device). Told k b d0 d1.disk d1.history.items d1.doubt c0 c1 e0 e1 end x reply) pf t))))))))))
 
-  pub rose_disk : (d0 d0' d1 d1' : Desk F dg) → d0 ≡ d0' → d1 ≡ d1' → Rose (dg.faults d0.disk) (dg.faults d1.disk) → Rose (dg.faults d0'.disk) (dg.faults d1'.disk)
-  rose_disk d0 d0' d1 d1' p0 p1 r =
-      subst (λ (x : Desk F dg). Rose (dg.faults x.disk) (dg.faults d1'.disk)) p0 (subst (λ (x : Desk F dg). Rose (dg.faults d0.disk) (dg.faults x.disk)) p1 r)
+  pub rose_disk : (d0 d0' d1 : Desk F dg) (disk : F) → d0 ≡ d0' → d1.disk ≡ disk → Rose (dg.faults d0.disk) (dg.faults d1.disk) → Rose (dg.faults d0'.disk) (dg.faults disk)
+  rose_disk d0 d0' d1 disk p0 p1 r =
+      subst (λ (x : Desk F dg). Rose (dg.faults x.disk) (dg.faults disk)) p0 (subst (λ (x : F). Rose (dg.faults d0.disk) (dg.faults x)) p1 r)
 
-  pub same_loan : (d0 d0' d1 d1' : Desk F dg) → d0 ≡ d0' → d1 ≡ d1' → dg.loan d1.disk ≡ dg.loan d0.disk → dg.loan d1'.disk ≡ dg.loan d0'.disk
-  same_loan d0 d0' d1 d1' p0 p1 e =
-      subst (λ (x : Desk F dg). dg.loan d1'.disk ≡ dg.loan x.disk) p0 (subst (λ (x : Desk F dg). dg.loan x.disk ≡ dg.loan d0.disk) p1 e)
+  pub same_loan : (d0 d0' d1 : Desk F dg) (disk : F) → d0 ≡ d0' → d1.disk ≡ disk → dg.loan d1.disk ≡ dg.loan d0.disk → dg.loan disk ≡ dg.loan d0'.disk
+  same_loan d0 d0' d1 disk p0 p1 e =
+      subst (λ (x : Desk F dg). dg.loan disk ≡ dg.loan x.disk) p0 (subst (λ (x : F). dg.loan x ≡ dg.loan d0.disk) p1 e)
 
 pub rose_moved : {E : Type 0} (faults : E → ℕ) (e0 e0' e1 e1' : E) → e0 ≡ e0' → e1 ≡ e1' → Rose (faults e0) (faults e1) → Rose (faults e0') (faults e1')
 rose_moved {E} faults e0 e0' e1 e1' p0 p1 r = subst (λ (x : E). Rose (faults x) (faults e1')) p0 (subst (λ (x : E). Rose (faults e0) (faults x)) p1 r)

@@ -1,7 +1,7 @@
 -- The reply of a command that changes the history, from what the mount, the desk and the writing of its line say.
-use Rattle.std.proofs.Common.{◌≡◌, ◌⊎◌, inl, inr, ⊎_elim, ℕ, List, Option, Some, None, Result, Ok, Err, refl, sym, subst}
-use Rattle.std.specs.Prelude.{◌≢◌, IfSome}
-use Rattle.cmp_ports.specs.Disk.{Among, Every, LeavesOnly}
+use Rattle.std.proofs.Common.{◌≡◌, ◌⊎◌, inl, inr, ⊎_elim, ℕ, List, Option, Some, None, Ok, sym, subst}
+use Rattle.std.specs.Prelude.{IfSome}
+use Rattle.cmp_ports.specs.Disk.{Among, LeavesOnly}
 use Rattle.cmp_ports.specs.Moments.{weaker, joins}
 use Rattle.journal_core.specs.declared.fault.MountFault.{MountFault}
 use Rattle.journal_core.specs.declared.fault.MountFault.TheVariants as mounts
@@ -11,8 +11,8 @@ use Rattle.deal_model.specs.Rules.{Allowed, Legal}
 use Rattle.desk.specs.Images.{RecoversWith, IsDoubt, Images}
 use Rattle.desk.specs.Mounts.{Stands, Refuses}
 use Rattle.cmpca.specs.declared.status.Status.{Status}
-use Rattle.cmpca.specs.Mounts.{IsFaultReply, IsUnmounted, IsAnswer, fault_status, fault_line}
-use Rattle.cmpca.specs.Changes.{DiskRun, IsUnchanged, Deed, IsChanged, run_of}
+use Rattle.cmpca.specs.Mounts.{IsFaultReply, IsUnmounted, IsAnswer}
+use Rattle.cmpca.specs.Changes.{Deed, IsChanged, run_of}
 use Rattle.cmpca.specs.Reply.{Replied, IsChangeReply}
 use Rattle.cmpca.proofs.RunLemmas.{reformed}
 use Rattle.cmpca.proofs.ShowLemmas.{OneAnswer, told, answer, unmounted}

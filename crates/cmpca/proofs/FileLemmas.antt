@@ -1,17 +1,16 @@
 -- What the file of credentials tells, where the source tells its octets and where it does not.
-use Rattle.std.specs.Prelude.{◌≡◌, ℕ, ◌+◌, ◌<◌, List, [], ◌∷◌, Option, Some, None, IfSome, Result, Ok, Err, ok_or, length, take, refl}
-use Rattle.std.proofs.Common.{inl, inr, arith, sym, ◌∙◌, ap, subst, length-take-le}
-use Rattle.std.specs.List.{list_any, AllByRecursion}
+use Rattle.std.specs.Prelude.{◌≡◌, ℕ, ◌+◌, ◌<◌, List, [], ◌∷◌, Option, Some, None, IfSome, Result, Err, ok_or, length, take, refl}
+use Rattle.std.proofs.Common.{inl, inr, arith, sym, ◌∙◌, ap, length-take-le}
+use Rattle.std.specs.List.{AllByRecursion}
 use Rattle.std.proofs.lemmas.List.{take_all}
 use Rattle.std.proofs.lemmas.Bool.{cases_lt}
 use Rattle.deal_changes.specs.declared.change.Credential.{Credential}
-use Rattle.deal_model.specs.Views.{is_entry}
 use Rattle.deal_model.specs.Rules.{AreNew}
 use Rattle.registry.specs.declared.fault.RegFault.{RegFault}
 use Rattle.registry.specs.declared.fault.RegFault.TheVariants as files
 use Rattle.registry.specs.Credentials.{credentials_in, credentials_of}
 use Rattle.registry.specs.Credentials as registry
-use Rattle.registry.specs.Files.{◌>>=◌, table_in}
+use Rattle.registry.specs.Files.{◌>>=◌}
 use Rattle.registry.proofs.FileLemmas.{table_long}
 use Rattle.desk.specs.Listings as desk
 use Rattle.cmpca.specs.Deeds.{IsFile}

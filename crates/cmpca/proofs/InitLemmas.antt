@@ -1,6 +1,6 @@
 -- What settings need to be before their keys are made, and what they are with the keys of a key file.
-use Rattle.std.proofs.Common.{◌≡◌, ◌≢◌, ◌⊎◌, inl, inr, ℕ, ◌+◌, ◌<◌, ◌≤◌, ◌==◌, Bool, true, false, IsTrue, ◌&&◌, List, [], ◌∷◌, ◌++◌, length, take, drop, replicate, Some, None, refl, sym, ◌∙◌, ap, subst, arith}
-use Rattle.std.specs.Prelude.{Option, Result, Ok, Err, ok_or, IfSome, if◌then◌else◌}
+use Rattle.std.proofs.Common.{◌≡◌, ◌≢◌, ◌⊎◌, inl, inr, ℕ, ◌+◌, ◌<◌, ◌≤◌, ◌==◌, Bool, true, false, List, [], ◌∷◌, ◌++◌, length, take, drop, replicate, Some, None, refl, sym, ◌∙◌, ap, subst, arith}
+use Rattle.std.specs.Prelude.{Option, Result, Err, ok_or, IfSome}
 use Rattle.std.proofs.Common.{length-drop, length-take-le, eqb-true}
 use Rattle.std.proofs.lemmas.List.{take_all}
 use Rattle.std.proofs.lemmas.Bool.{cases_lt, and_parts}
@@ -8,7 +8,7 @@ use Rattle.std.specs.List.{list_all}
 use Rattle.std.specs.Int.{w32, to_be_bytes}
 use Rattle.lms_params.specs.Parameters.{OtsRow, ots_row, tree_height}
 use Rattle.lms_tree.specs.Keys.{Secret, public_key}
-use Rattle.hss_sig.specs.OneLevel.{hss_key, octets_of}
+use Rattle.hss_sig.specs.OneLevel.{hss_key}
 use Rattle.deal_changes.specs.Spelling.{u32}
 use Rattle.deal_changes.specs.declared.change.Settings.{Settings}
 use Rattle.deal_model.specs.Keys.{tree_of, ots_of}

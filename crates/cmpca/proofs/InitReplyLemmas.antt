@@ -1,5 +1,5 @@
 -- The reply of init, by what the input says, what the key file gives and what becomes of the disk.
-use Rattle.std.proofs.Common.{◌≡◌, ◌⊎◌, inl, inr, ⊎_elim, ℕ, ◌≤◌, length, List, [], ◌∷◌, Option, Some, None, Result, Ok, Err, true, false, refl, sym, ◌∙◌, ap, subst}
+use Rattle.std.proofs.Common.{◌≡◌, inl, inr, ⊎_elim, ℕ, ◌≤◌, length, List, [], ◌∷◌, Option, Some, None, Result, Ok, Err, true, false, refl, sym, ◌∙◌, ap, subst}
 use Rattle.std.specs.Prelude.{◌≢◌, IfSome, codes}
 use Rattle.cmp_ports.specs.Disk.{Among, Every, LeavesOnly}
 use Rattle.journal_core.specs.Log.{is_founded}

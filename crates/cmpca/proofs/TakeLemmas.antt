@@ -1,5 +1,5 @@
 -- The reply of take, from what the mount, the keys, the front and the writing of its answer say.
-use Rattle.std.proofs.Common.{◌≡◌, ◌⊎◌, inl, inr, ⊎_elim, ℕ, ◌+◌, ◌<◌, ◌≤◌, List, [], ◌∷◌, ◌++◌, length, take, Option, Some, None, refl, sym, ◌∙◌, ap, subst, arith}
+use Rattle.std.proofs.Common.{◌≡◌, ◌⊎◌, inl, inr, ⊎_elim, ℕ, ◌+◌, ◌≤◌, List, [], ◌∷◌, length, take, Option, Some, None, refl, sym, ◌∙◌, ap, subst, arith}
 use Rattle.std.specs.Prelude.{Ok, Err, IfSome, slice_get}
 use Rattle.cmp_ports.specs.Disk.{Among, LeavesOnly}
 use Rattle.journal_core.specs.declared.fault.MountFault.{MountFault}
@@ -10,7 +10,7 @@ use Rattle.std.proofs.lemmas.Option.{none-some, same_Some}
 use Rattle.deal_changes.specs.declared.change.Settings.{Settings}
 use Rattle.deal_changes.specs.declared.change.Change.{Change}
 use Rattle.deal_changes.specs.declared.change.Change.TheVariants.{Found, Enlist, Dismiss, Grant, Hold, Release, Deny, Turned, Polled, Settled, Revoke, Lapse}
-use Rattle.deal_model.specs.Views.{History, is_found, founding_in, founding, settings_of}
+use Rattle.deal_model.specs.Views.{History, founding_in, settings_of}
 use Rattle.deal_model.specs.Rules.{IsOwnKey, Allowed, Legal}
 use Rattle.deal_table.specs.History.{IsFounded}
 use Rattle.desk.specs.Images.{RecoversWith, Images}

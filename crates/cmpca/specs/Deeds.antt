@@ -1,6 +1,6 @@
 -- What the commands do that change a history by one change: from the history h before to the history g after and the change
 -- e that is in doubt then, with the status and the text of the reply.
-use Rattle.std.specs.Prelude.{◌≡◌, ◌≢◌, ◌⊎◌, ℕ, List, [], ◌∷◌, ◌++◌, length, Option, None, IfSome, Result, Ok, Err, codes}
+use Rattle.std.specs.Prelude.{◌≡◌, ◌≢◌, ◌⊎◌, ℕ, List, ◌∷◌, ◌++◌, length, Option, None, IfSome, Result, Ok, Err, codes}
 use Rattle.std.specs.Fmt.{decimal}
 use Rattle.cmp_ports.specs.declared.order.Order.{Order}
 use Rattle.deal_changes.specs.declared.change.Kind.{Kind}

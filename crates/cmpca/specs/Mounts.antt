@@ -1,5 +1,5 @@
 -- How a run ends whose disk is not mounted.
-use Rattle.std.specs.Prelude.{ℕ, ◌≡◌, ◌⊎◌, Result, Ok, Err, List, ◌++◌, Option, IfSome, codes}
+use Rattle.std.specs.Prelude.{ℕ, ◌≡◌, ◌⊎◌, Result, Err, List, ◌++◌, Option, IfSome, codes}
 use Rattle.std.specs.Fmt.{decimal}
 use Rattle.deal_model.specs.Views.{History}
 use Rattle.desk_laws.specs.Answers.{Holds}

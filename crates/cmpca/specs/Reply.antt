@@ -1,6 +1,6 @@
 -- What a run of the program writes and how it ends, by its words, its input, its key file, the clock's reading, the words that were
 -- drawn and what its disk holds.
-use Rattle.std.specs.Prelude.{ℕ, ◌≡◌, Result, Ok, List, Option, Some, None, IfSome, codes, ◌⊎◌}
+use Rattle.std.specs.Prelude.{ℕ, ◌≡◌, Ok, List, Option, Some, None, IfSome, codes, ◌⊎◌}
 use Rattle.std.specs.Io.KnownBytes.{Appends}
 use Rattle.cmp_ports.specs.declared.order.Order.{Order}
 use Rattle.cmp_ports.specs.declared.order.Order.TheVariants as orders

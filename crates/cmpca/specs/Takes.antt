@@ -1,9 +1,8 @@
 -- What take does: it answers the message of the input over the history that the disk holds, with the keys of the key file.
-use Rattle.std.specs.Prelude.{ℕ, ◌≡◌, ◌+◌, ◌⊎◌, List, [], ◌∷◌, ◌++◌, take, Option, Some, None, IfSome, Result, Ok, Err, codes}
+use Rattle.std.specs.Prelude.{ℕ, ◌≡◌, ◌+◌, ◌⊎◌, List, [], ◌∷◌, ◌++◌, take, Option, Some, None, IfSome, Ok, Err, codes}
 use Rattle.hex.specs.Hex.{encode_lower}
 use Rattle.cmp_ports.specs.declared.fail_info.FailInfo.TheVariants.{SystemFailure}
 use Rattle.deal_changes.specs.declared.change.Change.{Change}
-use Rattle.deal_changes.specs.declared.change.Settings.{Settings}
 use Rattle.deal_model.specs.Views.{History, settings_of}
 use Rattle.deal_table.specs.History.{event_time}
 use Rattle.deal_table.specs.Message.{echo_of}
@@ -19,7 +18,7 @@ use Rattle.front.specs.Answers.{ForLetter, IsDecision, IsOwn, after}
 use Rattle.front.specs.Answers as front
 use Rattle.cmpca.specs.Lines.{line}
 use Rattle.cmpca.specs.Mounts.{IsAnswer, TellsFault}
-use Rattle.cmpca.specs.Changes.{DiskRun, IsUnchanged, Deed, IsChanged}
+use Rattle.cmpca.specs.Changes.{DiskRun, IsUnchanged, IsChanged}
 use Rattle.cmpca.specs.Deeds.{IsCutShort}
 use Rattle.cmpca.specs.declared.status.Identity.{Identity}
 use Rattle.cmpca.specs.declared.status.Status.{Status}

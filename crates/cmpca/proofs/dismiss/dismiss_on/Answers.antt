@@ -1,7 +1,4 @@
 -- The reply is by how the dismissal ended.
-use Rattle.std.proofs.Common.{subst}
-use Rattle.std.specs.Prelude.{None}
-use Rattle.cmpca.specs.Deeds.{Dismisses}
 use Rattle.cmpca.proofs.RunLemmas.{replied}
 use Rattle.cmpca.proofs.dismiss.dismiss_on.Goals as goal
 

@@ -1,5 +1,5 @@
 -- What was read tells of the whole file.
-use Rattle.std.proofs.Common.{◌≡◌, ◌∙◌, ap, Ok, Err, sym}
+use Rattle.std.proofs.Common.{◌∙◌, ap, sym}
 use Rattle.registry.specs.Credentials.{credentials_in}
 use Rattle.cmpca.proofs.FileLemmas.{told_file}
 use Rattle.cmpca.proofs.enlist.read_list.Goals as goal

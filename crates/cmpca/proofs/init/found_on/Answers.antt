@@ -1,5 +1,5 @@
 -- The reply is by what becomes of the disk.
-use Rattle.std.proofs.Common.{rules, MutBor, subst, refl, inr}
+use Rattle.std.proofs.Common.{rules, MutBor, refl, inr}
 use Rattle.desk.specs.Founded.{founding}
 use Rattle.deal_changes.specs.Spelling.{spelling}
 use Rattle.cmpca.proofs.RunLemmas.{replied}

@@ -1,6 +1,6 @@
 -- The reply is by the input, then by the key file, then by the disk.
 use Rattle.cmpca.proofs.InitLemmas.{usable, blank}
-use Rattle.cmpca.proofs.InitReplyLemmas.{untouched, ran_unset, ran_unloaded, ran_found, no_settings, no_mismatch, same_settings, may_be_first}
+use Rattle.cmpca.proofs.InitReplyLemmas.{untouched, ran_unset, ran_unloaded, ran_found, no_mismatch, may_be_first}
 use Rattle.cmpca.proofs.init.run_init.Goals as goal
 
 pub load-requires : goal.load-requires

@@ -13,11 +13,13 @@ returns-clause-answering g c =
     let n = c.answer-answered.new.self in
     let f = c.new-front.result in
     moved g.F.Disk g.C.Clock.readings g.E.Entropy.draws (replier_by f.keys.now) _ c.as_slice.result.now _
-    f.clerk.desk.now c.args.desk.now n.clerk.desk.now _ f.clock.now c.args.clock.now n.clock.now _ f.entropy.now c.args.entropy.now n.entropy.now _
+    f.clerk.desk.now c.args.desk.now n.clerk.desk.now _ _ _ f.clock.now c.args.clock.now n.clock.now _ f.entropy.now c.args.entropy.now n.entropy.now _
     c.answer-answered.result n.failed c.failed-failed.result c.answer-answered.new.reply
     (ap replier_by c.new-front.ensures.keys)
     c.as_slice.ensures.value
     (search (rules, c.new-front.ensures.clerk, c.new-clerk.ensures.desk))
+    (search (rules, loan, c.new-front.ensures.clerk, c.new-clerk.ensures.loan, c.into_parts-clerk.ensures.clerk, c.into_desk-desk.ensures.now, c.into_desk-desk.ensures.loan))
+    (search (rules, loan, c.new-front.ensures.clerk, c.new-clerk.ensures.loan, c.into_parts-clerk.ensures.clerk, c.into_desk-desk.ensures.now, c.into_desk-desk.ensures.loan))
     (search (rules, loan, c.new-front.ensures.clerk, c.new-clerk.ensures.loan, c.into_parts-clerk.ensures.clerk, c.into_desk-desk.ensures.now, c.into_desk-desk.ensures.loan))
     (search (rules, c.new-front.ensures.clock))
     (search (rules, a.clock, c.new-front.ensures.clock, c.into_parts-clerk.ensures.clock))
