@@ -287,8 +287,8 @@ class Reply:
 
     def holds_by(self, root):
         """Whether its signature is by the key of the certificate that it carries, with the serial number 2, which the root signed."""
-        certificate = first(self.behind[0xA1])[2]
-        return serial_of(certificate) == 2 and signed_by(certificate, root) and hss_ok(key_of(certificate), self.protected, self.behind[0xA0][1:])
+        certificate, signature = first(self.behind[0xA1])[2], self.behind[0xA0][1:]
+        return serial_of(certificate) == 2 and signed_by(certificate, root) and hss_ok(key_of(certificate), self.protected, signature)
 
     def response(self):
         """The parts of the one response of an ip, cp or kup."""
