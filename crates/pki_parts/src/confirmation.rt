@@ -10,9 +10,6 @@ ghost use Rattle.asn_parts.specs.Parts.{required_with, sole_with};
 ghost use Rattle.pki_parts.specs.Lists.{IsOne};
 ghost use Rattle.pki_parts.specs.Status.{StatusForm, status_of, status_at};
 
-#[cfg(test)]
-mod tests;
-
 use crate::identifier::put_id;
 use crate::list::read_list;
 use crate::status::{StatusInfo, status_inside};

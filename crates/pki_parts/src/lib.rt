@@ -3,8 +3,6 @@
 
 mod cert_rep;
 mod confirmation;
-#[cfg(test)]
-mod cut;
 mod error;
 mod fail_info;
 mod identifier;
@@ -28,6 +26,3 @@ pub use reason::revocation_reason;
 pub use revocation::{RevEntry, RevReq, read_rev_req, write_rev_req};
 pub use revoked::{RevRep, read_rev_rep, write_rev_rep};
 pub use status::{StatusInfo, read_status, write_status};
-
-#[cfg(test)]
-mod reply_tests;

@@ -8,9 +8,6 @@ ghost use Rattle.asn_parts.specs.Number.{number_octets};
 ghost use Rattle.pki_parts.specs.Identifier.{id_octets};
 ghost use Rattle.pki_parts.specs.Lists.{IsOne};
 
-#[cfg(test)]
-mod tests;
-
 use crate::identifier::put_id;
 use crate::list::read_list;
 use crate::texts::texts_field;

@@ -10,9 +10,6 @@ ghost use Rattle.asn_types.specs.Template.{extensions_of};
 ghost use Rattle.asn_parts.specs.Number.{number_octets};
 ghost use Rattle.pki_parts.specs.Reason.{IsReasonOf, reason_code_id, is_reason, reason_octet_at, reason_value_at, reason_in_at, reason_at, reason_extension};
 
-#[cfg(test)]
-mod tests;
-
 use asn_fields::{BadForm, sole};
 use asn_parts::number;
 use asn_types::{Extension, Extensions, REASON_CODE, read_extension};

@@ -10,9 +10,6 @@ ghost use Rattle.asn_parts.specs.Parts.{required_with};
 ghost use Rattle.pki_parts.specs.Lists.{IsOne};
 ghost use Rattle.pki_parts.specs.Reason.{IsReason, IsReasonOf, reason_extension};
 
-#[cfg(test)]
-mod tests;
-
 use crate::list::read_list;
 use crate::reason::put_reason;
 use asn_fields::{BadForm, Entry, Row, field, optional};

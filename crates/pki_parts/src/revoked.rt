@@ -8,9 +8,6 @@ ghost use Rattle.asn_fields.specs.Rows.{RowForm, row_of};
 ghost use Rattle.pki_parts.specs.Lists.{IsOne};
 ghost use Rattle.pki_parts.specs.Status.{StatusForm, FitsStatus, status_content, status_of};
 
-#[cfg(test)]
-mod tests;
-
 use crate::status::StatusInfo;
 use asn_fields::{BadForm, Row, field, optional, read_row};
 use cmp_ports::Octets;
