@@ -2,6 +2,7 @@
 
 import calendar
 import copy
+import os
 import time
 
 from authority import Authority
@@ -120,7 +121,8 @@ class Course:
             return f"a reply of another form ({fault!r}): {told(octets)}"
         macs = 0xA0 in reply.behind and not signs
         if octets != wanted:
-            return f"{told(wanted)}, not {told(octets)}"
+            begins = len(os.path.commonprefix([wanted, octets]))
+            return f"{told(wanted)}, not {told(octets)}, which is another from octet {begins} on"
         if not max(span[0], self.span[0]) <= time_of(reply) <= max(span[1], self.span[1]):
             return "another time"
         if len(reply.fields[0xA5]) != 16 or macs and len(reply.salt_and_rounds()[0]) != 16:

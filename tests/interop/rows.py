@@ -20,6 +20,10 @@ HSS_NULL = sequence(oid("1.2.840.113549.1.9.16.3.17"), NULL)
 SHA512 = sequence(oid("2.16.840.1.101.3.4.2.3"))
 SHA256 = oid("2.16.840.1.101.3.4.2.1")
 SALT = bytes(range(16))
+KEY_USAGE, NAMES, BASIC = "2.5.29.15", "2.5.29.17", "2.5.29.19"
+SIGNS = extension(KEY_USAGE, bytes.fromhex("03020640"))
+NAMED = extension(NAMES, sequence(der(0x82, b"device.example")), critical=True)
+CLIENT = extension("2.5.29.37", sequence(oid("1.3.6.1.5.5.7.3.2")))
 
 
 class Row(NamedTuple):
@@ -46,15 +50,22 @@ def unreadable(what, by, octets, nests=True):
     return Row(what, Sent(octets, by, 3, NOBODY, None, None), bare("badDataFormat"), nests=nests)
 
 
+def extension_request(*extensions):
+    """The attribute of PKCS #10 that asks for extensions (RFC 2985, 5.4.2)."""
+    return sequence(oid("1.2.840.113549.1.9.14"), der(0x31, sequence(*extensions)))
+
+
 def forms(home):
     """Octets that are no message."""
     whole = message(home.device, enrolment(IR, home.new)).octets
+    twice = extension_request(CLIENT) + extension_request(NAMED)
     return [
         unreadable("no octets", home.device, b"", nests=False),
         unreadable("an octet cut off", home.device, whole[:-1], nests=False),
         unreadable("an octet behind it", home.device, whole + b"\0", nests=False),
         unreadable("a body outside the table", home.device, message(home.device, der(0xBB, NULL)).octets),
         unreadable("a nested body without a message", home.device, message(home.device, der(NESTED, sequence())).octets),
+        unreadable("PKCS #10 that asks for extensions twice", home.device, message(home.device, pkcs10(home.new, attributes=twice)).octets),
         unreadable("extraCerts without a certificate", home.device, sequence(first(whole)[1], der(0xA1, sequence()))),
     ]
 
@@ -173,7 +184,7 @@ def transactions(home):
         Row("a certConf for a rejected one", right(conf, "G"), refused("certRevoked")),
         Row("a certConf for a revoked one", right(conf, "H"), refused("certRevoked")),
         Row("a certConf after the deadline", right(conf, "B"), refused("certRevoked"), moved=-WAIT),
-        Row("a certConf before it", right(conf, "B"), refused("badAlg"), moved=600 - WAIT),
+        Row("a certConf before it", right(conf, "B"), refused("badAlg"), moved=-WAIT // 2),
         Row("a certConf for a held request", right(conf, "C", home.waiter), refused("badRequest")),
         Row("a certConf for a released one", right(conf, "D", home.waiter), refused("badRequest")),
         Row("a pollReq for a confirmed certificate", right(polls(0), "A"), refused("badRequest")),
@@ -254,6 +265,7 @@ def revoking(home):
         Row("rr: of another's open certificate", named(4, home.waiter), refused("notAuthorized")),
         Row("rr: of another's, by a certificate", named(9, home.keys["A"]), refused("notAuthorized")),
         Row("rr: of an open certificate", named(4, home.device), refused("badRequest")),
+        Row("rr: of an open one, after the deadline", named(4, home.device), refused("badRequest"), moved=-WAIT),
         Row("rr: of a rejected one", named(5, home.device), refused("certRevoked")),
         Row("rr: of a revoked one", named(6, home.revoker), refused("certRevoked")),
         Row("rr: of one's own", named(3, home.device), revoked(3, 0)),
@@ -268,13 +280,6 @@ def revoking(home):
     return listed
 
 
-KEY_USAGE, NAMES = "2.5.29.15", "2.5.29.17"
-BASIC = "2.5.29.19"
-SIGNS = extension(KEY_USAGE, bytes.fromhex("03020640"))
-NAMED = extension(NAMES, sequence(der(0x82, b"device.example")), critical=True)
-CLIENT = extension("2.5.29.37", sequence(oid("1.3.6.1.5.5.7.3.2")))
-
-
 def templates(home):
     """What is asked for, in a template or in PKCS #10, under a key for which badAlg comes next."""
     name, key = subject(home.new.name), public(other_key(b"odd"))
@@ -286,8 +291,8 @@ def templates(home):
         return odd(name, key, der(0xA9, *extensions))
 
     def odd_pkcs10(*extensions, **changes):
-        attribute = sequence(oid("1.2.840.113549.1.9.14"), der(0x31, sequence(*extensions))) if extensions else b""
-        return message(home.device, pkcs10(home.new, attributes=attribute, algorithm=ED25519, sign=lambda text: b"", **changes))
+        attributes = extension_request(*extensions) if extensions else b""
+        return message(home.device, pkcs10(home.new, attributes=attributes, algorithm=ED25519, sign=lambda text: b"", **changes))
 
     wrong = [
         ("no subject", odd(key)),
@@ -381,6 +386,7 @@ def keys(home):
         ("the signature of another request", say(public(home.new.info), elsewhere)),
         ("a signature over poposkInput", message(home.device, requests(IR, (request, der(0xA1, der(0xA0, NULL), HSS_LMS, signature))))),
         ("raVerified", say(public(home.new.info), RA_VERIFIED)),
+        ("raVerified by a certificate", say(public(home.new.info), RA_VERIFIED, by=home.keys["A"])),
         ("another algorithm, raVerified", say(odd, RA_VERIFIED)),
         ("keyEncipherment", say(public(home.new.info), der(0xA2, NULL))),
         ("keyAgreement", say(public(home.new.info), der(0xA3, NULL))),
@@ -416,7 +422,7 @@ def granting(home):
     new, later = home.new, int(time.time()) + 2 * SKEW
     wish = Wish(new.name, new.info)
     copied = Wish(new.name, new.info, SIGNS + NAMED)
-    attributes = sequence(oid("1.2.840.113549.1.9.14"), der(0x31, sequence(CLIENT, NAMED, SIGNS)))
+    attributes = extension_request(CLIENT, NAMED, SIGNS)
     vouched = requests(IR, (asked(subject(new.name), public(new.info)), RA_VERIFIED))
     other = requests(CR, (asked(subject(new.name), public(other_key(b"odd"))), RA_VERIFIED))
     request = asked(subject(new.name), public(new.info))
