@@ -4,6 +4,8 @@
 #[cfg(test)]
 mod desks;
 #[cfg(test)]
+mod dismissing;
+#[cfg(test)]
 mod enlisting;
 #[cfg(test)]
 mod meeting;

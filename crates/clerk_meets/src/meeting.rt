@@ -4,7 +4,7 @@ ghost use Rattle.turnstile.specs.Steps.{Rests};
 use crate::desks::{LISTED, NOW, mounted};
 use crate::requests::{Request, checked_of, request_of};
 use clerk::SharedClerk;
-use cmp_ports::MemDisk;
+use cmp_ports::{FailInfo, MemDisk};
 use deal_model::Change;
 use desk::{Clerk, Desk, Verdict};
 use std::alloc::Global;
@@ -15,13 +15,14 @@ use turnstile::{Seat, Turnstile};
 
 /// A verdict without its receipt.
 #[derive(Clone, Copy, PartialEq, Eq)]
-enum Told {
+pub(crate) enum Told {
     Done { place: u64 },
     Again { place: u64 },
+    Refused { fail: FailInfo, guarded: bool },
     Other,
 }
 
-fn outcome_of(verdict: Verdict) -> Told {
+pub(crate) fn outcome_of(verdict: Verdict) -> Told {
     match verdict {
         Verdict::Done(receipt) => Told::Done {
             place: receipt.place(),
@@ -29,15 +30,16 @@ fn outcome_of(verdict: Verdict) -> Told {
         Verdict::Again { receipt, .. } => Told::Again {
             place: receipt.place(),
         },
+        Verdict::Refused { fail, guarded, .. } => Told::Refused { fail, guarded },
         _ => Told::Other,
     }
 }
 
 /// What a clerk told of a request: how many changes stood when it looked, and what it decided.
 #[derive(Clone, Copy, PartialEq, Eq)]
-struct Heard {
-    looked: u64,
-    told: Told,
+pub(crate) struct Heard {
+    pub(crate) looked: u64,
+    pub(crate) told: Told,
 }
 
 // A clerk looks, waits until the other has looked, and then decides. It tells nothing where there was no memory for the request.
