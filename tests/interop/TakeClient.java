@@ -6,6 +6,7 @@ import java.util.Arrays;
 import java.util.List;
 import java.util.Locale;
 import org.bouncycastle.asn1.ASN1Encodable;
+import org.bouncycastle.asn1.ASN1GeneralizedTime;
 import org.bouncycastle.asn1.DERNull;
 import org.bouncycastle.asn1.cmp.CMPCertificate;
 import org.bouncycastle.asn1.cmp.CertRepMessage;
@@ -128,7 +129,7 @@ public final class TakeClient {
         InfoTypeAndValue[] info = header.getGeneralInfo();
         String told = TakeVectors.generalized(header.getMessageTime().getDate().getTime() / 1000 + 300).getTimeString();
         check("confirmWaitTime is 300 seconds later", info.length == 1 && info[0].getInfoType().getId().equals("1.3.6.1.5.5.7.4.14")
-                && info[0].getInfoValue().toString().equals(told));
+                && ASN1GeneralizedTime.getInstance(info[0].getInfoValue()).getTimeString().equals(told));
     }
 
     private void checkRoot(Certificate root) throws Exception {

@@ -84,35 +84,54 @@ public final class TakeVectors {
     static final X500Name DEVICE = cn("device-1");
     private static final long NOW = 1_700_000_000L;
     private static final int ROUNDS = 1000;
+    private static final byte[] ISSUE_SEED = run(0x10, 32);
+    private static final byte[] ISSUE_ID = run(0x80, 16);
+    private static final byte[] REPLY_SEED = run(0x30, 32);
+    private static final byte[] REPLY_ID = run(0xa0, 16);
 
     public static void main(String[] words) throws Exception {
         System.out.println("# Bouncy Castle " + PKIMessage.class.getPackage().getImplementationVersion());
-        byte[] keyFile = join(run(0x10, 32), run(0x80, 16), run(0x30, 32), run(0xa0, 16));
-        Tree issue = new Tree(Arrays.copyOfRange(keyFile, 0, 32), Arrays.copyOfRange(keyFile, 32, 48));
-        Tree reply = new Tree(Arrays.copyOfRange(keyFile, 48, 80), Arrays.copyOfRange(keyFile, 80, 96));
-        System.out.println("key_file " + hex(keyFile));
-        System.out.println("identity " + hex(join(Arrays.copyOfRange(issue.key, 12, 60), Arrays.copyOfRange(reply.key, 12, 60))));
+        System.out.println("key_file " + hex(join(ISSUE_SEED, ISSUE_ID, REPLY_SEED, REPLY_ID)));
         Tree device = new Tree(run(0x50, 32), run(0x40, 16));
         PKIMessage ir = request(device, NOW, run(0x60, 16));
         show("ir", ir);
-
-        byte[] drawn = run(0xb0, 32);
-        CMPCertificate root = root(issue, NOW);
-        issue.sign(new byte[0]);
-        CMPCertificate granted = granted(issue, device, 3, NOW, NOW + 365 * 86_400 - 1);
-        show("root", root);
-        show("certificate", granted);
-        PKIMessage ip = reply(ir, NOW, drawn, true, granted(root, granted), new InfoTypeAndValue(
-                new ASN1ObjectIdentifier("1.3.6.1.5.5.7.4.14"), generalized(NOW + 300)));
-        show("ip", ip);
+        Authority authority = new Authority(LMOtsParameters.sha256_n32_w8);
+        CMPCertificate granted = authority.answer("", ir, device, NOW, run(0xb0, 32));
 
         PKIMessage wrong = confirmation(granted, NOW + 1, run(0x70, 16), run(0x00, 16));
         show("certConf with another recipNonce", wrong);
         show("badRecipientNonce", reply(wrong, NOW + 1, run(0xc0, 32), true, error("badRecipientNonce", PKIFailureInfo.badRecipientNonce), null));
-        PKIMessage confirmation = confirmation(granted, NOW + 2, run(0x90, 16), Arrays.copyOf(drawn, 16));
+        PKIMessage confirmation = confirmation(granted, NOW + 2, run(0x90, 16), run(0xb0, 16));
         show("certConf", confirmation);
         show("pkiconf", reply(confirmation, NOW + 2, run(0xd0, 32), true, new PKIBody(PKIBody.TYPE_CONFIRM, new PKIConfirmContent()), null));
         show("systemFailure", reply(ir, NOW, null, false, error("systemFailure", PKIFailureInfo.systemFailure), null));
+
+        new Authority(LMOtsParameters.sha256_n32_w1).answer(" with w = 1", ir, device, NOW, run(0xb0, 32));
+        new Authority(LMOtsParameters.sha256_n32_w1).answer(" with w = 1, a second later", ir, device, NOW + 1, run(0xc0, 32));
+    }
+
+    /** The keys of the key file by a set of LM-OTS, with the root, which was made when the authority was founded. */
+    private static final class Authority {
+        private final Tree issue;
+        private final CMPCertificate root;
+
+        Authority(LMOtsParameters ots) throws Exception {
+            issue = new Tree(ISSUE_SEED, ISSUE_ID, ots);
+            Tree reply = new Tree(REPLY_SEED, REPLY_ID, ots);
+            System.out.println("identity " + hex(join(Arrays.copyOfRange(issue.key, 12, 60), Arrays.copyOfRange(reply.key, 12, 60))));
+            root = root(issue, NOW);
+            issue.sign(new byte[0]);
+        }
+
+        /** Shows the first certificate that is granted at a time, and the ip by the words drawn for it. */
+        CMPCertificate answer(String which, PKIMessage ir, Tree device, long time, byte[] drawn) throws Exception {
+            CMPCertificate granted = granted(issue, device, 3, time, time + 365 * 86_400 - 1);
+            show("root" + which, root);
+            show("certificate" + which, granted);
+            show("ip" + which, reply(ir, time, drawn, true, granted(root, granted), new InfoTypeAndValue(
+                    new ASN1ObjectIdentifier("1.3.6.1.5.5.7.4.14"), generalized(time + 300))));
+            return granted;
+        }
     }
 
     // ---- the device
@@ -278,14 +297,19 @@ public final class TakeVectors {
         System.out.println(hex(octets));
     }
 
-    /** An HSS key of one level, of height 5 and w = 8, which signs with its leaves in order. */
+    /** An HSS key of one level, of height 5, which signs with its leaves in order. */
     static final class Tree {
         final byte[] key;
         private final HSSSigner signer = new HSSSigner();
 
+        /** A key with w = 8. */
         Tree(byte[] seed, byte[] id) throws Exception {
+            this(seed, id, LMOtsParameters.sha256_n32_w8);
+        }
+
+        Tree(byte[] seed, byte[] id, LMOtsParameters ots) throws Exception {
             HSSKeyPairGenerator generator = new HSSKeyPairGenerator();
-            LMSParameters set = new LMSParameters(LMSigParameters.lms_sha256_n32_h5, LMOtsParameters.sha256_n32_w8);
+            LMSParameters set = new LMSParameters(LMSigParameters.lms_sha256_n32_h5, ots);
             generator.init(new HSSKeyGenerationParameters(new LMSParameters[] {set}, new Fixed(seed, id)));
             AsymmetricCipherKeyPair pair = generator.generateKeyPair();
             key = ((HSSPublicKeyParameters) pair.getPublic()).getEncoded();
