@@ -82,9 +82,9 @@ def items(content):
     return found
 
 
-def pbmac1(salt, rounds, *length, prf=HMAC_SHA256):
+def pbmac1(salt, rounds, *length, prf=HMAC_SHA256, mac=HMAC_SHA256):
     derivation = sequence(oid("1.2.840.113549.1.5.12"), sequence(octet_string(salt), integer(rounds), *length, prf))
-    return sequence(oid("1.2.840.113549.1.5.14"), sequence(derivation, HMAC_SHA256))
+    return sequence(oid("1.2.840.113549.1.5.14"), sequence(derivation, mac))
 
 
 class Secret:
@@ -192,9 +192,9 @@ def requests(tag, *entries):
     return der(tag, sequence(*(sequence(*entry) for entry in entries)))
 
 
-def enrolment(tag, key, *fields, **changes):
-    """Such a body for this key, which proves that it is possessed."""
-    request = asked(*fields, subject(key.name), public(key.info), **changes)
+def enrolment(tag, key, name=None, **changes):
+    """Such a body for this key, which proves that it is possessed, in its own name or another."""
+    request = asked(subject(name or key.name), public(key.info), **changes)
     return requests(tag, (request, proof(key, request)))
 
 

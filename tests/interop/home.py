@@ -2,9 +2,9 @@
 
 from authority import CP, IP, Wish, denied, granted, revoked, settled, waiting
 from cmp_messages import (
-    CR, IR, NULL, Key, Secret, asked, bits, common_name, confirmation, confirmations, der, enrolment, issued, message, oid, pkcs10,
+    CR, IR, NULL, Key, Reply, Secret, asked, bits, common_name, confirmation, confirmations, der, enrolment, issued, message, oid, pkcs10,
     polls, public, requests, revocation, revocations, sequence, subject)
-from course import Course, credential
+from course import WAIT, Course, credential, time_of
 
 ROUNDS = 3
 RA_VERIFIED = der(0x80)
@@ -29,7 +29,7 @@ class Home:
         self.gateway, self.voucher, self.revoker, self.almighty = map(mac_device, ("ra-1", "ra-2", "ra-3", "ra-4"))
         self.signer, self.sealer, self.poller = Key("dev-5"), Key("ra-5"), Key("dev-6", tree=6)
         self.new = Key("device-new", tree=6)
-        self.keys = {tid: Key(f"device-{tid}") for tid in "ABCDEFGHILPX"}
+        self.keys = {tid: Key(f"device-{tid}") for tid in "ABCDEFGHILPQX"}
         self.other = other_key(b"another key")
         self.course = Course(run, [
             credential(self.device, ["enrol"]), credential(self.waiter, ["enrol"], hold=True), credential(self.leaver, ["enrol"]),
@@ -39,6 +39,8 @@ class Home:
         self.sent = {}
         self.grant_all()
         self.hold_all()
+        shown = self.course.command("show")
+        run.check(f"show: {shown}", shown == (0, self.lines().encode()))
 
     def wish(self, tid):
         return Wish(self.keys[tid].name, self.keys[tid].info)
@@ -77,13 +79,39 @@ class Home:
         self.course.obey("dismiss mac dev-3", b"dismissed\n")
 
     def hold_all(self):
-        """C and P wait, D is released, E is denied, and F is denied and told so."""
+        """C and P wait, D and Q are released, E is denied, and F is denied and told so."""
         self.enrol("C", self.waiter, None, waiting(CP, -1))
         self.enrol("D", self.waiter, CR, waiting(CP))
         self.enrol("E", self.waiter, None, waiting(CP, -1))
         self.enrol("F", self.waiter, IR, waiting(IP))
         self.enrol("P", self.poller, CR, waiting(CP))
+        self.enrol("Q", self.poller, CR, waiting(CP))
         self.course.obey("release 44", b"released\n")
+        self.course.obey("release 51", b"released\n")
         self.course.obey("deny 45", b"denied\n")
         self.course.obey("deny 46", b"denied\n")
         self.send("pollReq F", self.waiter, "F", polls(0), denied(IP), received=self.nonce("F"))
+
+    def deadline(self, tid):
+        return time_of(Reply(self.course.replies[tid.encode()])) + WAIT
+
+    def lines(self):
+        """How it all stands."""
+        return f"""changes 25
+issue 10 of 32
+reply 3 of 32
+cert 3 confirmed 41
+cert 4 open {self.deadline("B")} 42
+cert 5 revoked rejected 47
+cert 6 revoked 0 48
+cert 7 open {self.deadline("I")} 49
+cert 8 open {self.deadline("L")} 4c
+cert 9 confirmed 4e
+cert 10 open {self.deadline("X")} 58
+held 43
+released 44
+denied 45
+denied 46
+held 50
+released 51
+"""

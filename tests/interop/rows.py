@@ -19,6 +19,9 @@ from home import ED25519, IMPLICIT, RA_VERIFIED, other_key
 HSS_NULL = sequence(oid("1.2.840.113549.1.9.16.3.17"), NULL)
 SHA512 = sequence(oid("2.16.840.1.101.3.4.2.3"))
 SHA256 = oid("2.16.840.1.101.3.4.2.1")
+HMAC_SHA512 = sequence(oid("1.2.840.113549.2.11"), NULL)
+HMAC_BARE = sequence(oid("1.2.840.113549.2.9"))
+LIMIT = 131_072
 SALT = bytes(range(16))
 KEY_USAGE, NAMES, BASIC = "2.5.29.15", "2.5.29.17", "2.5.29.19"
 SIGNS = extension(KEY_USAGE, bytes.fromhex("03020640"))
@@ -50,19 +53,34 @@ def unreadable(what, by, octets, nests=True):
     return Row(what, Sent(octets, by, 3, NOBODY, None, None), bare("badDataFormat"), nests=nests)
 
 
+def old(serial, issuer=directory_name(AUTHORITY)):
+    """The control that names the certificate which is renewed (RFC 4211, 6.5)."""
+    return sequence(oid("1.3.6.1.5.5.7.5.1.5"), sequence(issuer, integer(serial)))
+
+
 def extension_request(*extensions):
     """The attribute of PKCS #10 that asks for extensions (RFC 2985, 5.4.2)."""
     return sequence(oid("1.2.840.113549.1.9.14"), der(0x31, sequence(*extensions)))
+
+
+def of_length(home, length):
+    """An ir of so many octets, for a long name, and what it wishes for."""
+    spare = length - len(message(home.device, enrolment(IR, home.new, name=common_name("x" * 70_000))).octets)
+    name = common_name("x" * (70_000 + spare))
+    return message(home.device, enrolment(IR, home.new, name=name)), Wish(name, home.new.info)
 
 
 def forms(home):
     """Octets that are no message."""
     whole = message(home.device, enrolment(IR, home.new)).octets
     twice = extension_request(CLIENT) + extension_request(NAMED)
+    longest, wish = of_length(home, LIMIT)
     return [
         unreadable("no octets", home.device, b"", nests=False),
         unreadable("an octet cut off", home.device, whole[:-1], nests=False),
         unreadable("an octet behind it", home.device, whole + b"\0", nests=False),
+        unreadable("one octet too many", home.device, of_length(home, LIMIT + 1)[0].octets, nests=False),
+        Row("as many octets as may be", longest, granted(IP, wish), nests=False),
         unreadable("a body outside the table", home.device, message(home.device, der(0xBB, NULL)).octets),
         unreadable("a nested body without a message", home.device, message(home.device, der(NESTED, sequence())).octets),
         unreadable("PKCS #10 that asks for extensions twice", home.device, message(home.device, pkcs10(home.new, attributes=twice)).octets),
@@ -104,6 +122,8 @@ def headers(home, name, body):
         ("200,001 iterations", bare("badAlg"), {"algorithm": pbmac1(bytes(8), 200_001)}),
         ("a key of 31 octets", bare("badAlg"), {"algorithm": pbmac1(bytes(8), 1, integer(31))}),
         ("no prf", bare("badAlg"), {"algorithm": pbmac1(bytes(8), 1, prf=b"")}),
+        ("another prf", bare("badAlg"), {"algorithm": pbmac1(bytes(8), 1, prf=HMAC_SHA512)}),
+        ("another MAC", bare("badAlg"), {"algorithm": pbmac1(bytes(8), 1, mac=HMAC_SHA512)}),
         ("no senderKID, at the greatest parameters", bare("signerNotTrusted"), {"algorithm": pbmac1(bytes(64), 200_000, integer(32))}),
         ("no senderKID, at the least", bare("signerNotTrusted"), {"algorithm": pbmac1(bytes(8), 1)}),
         ("no senderKID, at HSS/LMS", bare("signerNotTrusted"), {"algorithm": HSS_LMS}),
@@ -201,8 +221,8 @@ def confirming(home):
     def say(*statuses, tid="B", by=home.device):
         return message(by, confirmations(*statuses), tid=tid.encode(), received=home.nonce(tid))
 
-    def poll(tid, *numbers, by=home.waiter):
-        return message(by, polls(*numbers), tid=tid.encode(), received=home.nonce(tid))
+    def poll(tid, *numbers, by=home.waiter, **changes):
+        return message(by, polls(*numbers), tid=tid.encode(), received=home.nonce(tid), **changes)
 
     wrong = confirmation(b"", algorithm=SHA512)
     right = confirmation(certificate)
@@ -234,6 +254,8 @@ def confirming(home):
         Row("pollReq: held, certReqId 0 of a p10cr", poll("C", 0), polled(-1)),
         Row("pollReq: held, of a key", poll("P", 0, by=home.poller), polled(0)),
         Row("pollReq: released", poll("D", 0), granted(CP, home.wish("D"))),
+        Row("pollReq: released, which asks for implicitConfirm", poll("D", 0, info=sequence(IMPLICIT)), granted(CP, home.wish("D"))),
+        Row("pollReq: released, of a key", poll("Q", 0, by=home.poller), granted(CP, home.wish("Q"))),
         Row("pollReq: denied", poll("E", 0), denied(CP, -1)),
     ]
 
@@ -336,11 +358,8 @@ def keys(home):
     def hss(octets, algorithm=HSS_LMS):
         return public(sequence(algorithm, bits(octets)))
 
-    def old(serial, issuer=directory_name(AUTHORITY)):
-        return sequence(sequence(oid("1.3.6.1.5.5.7.5.1.5"), sequence(issuer, integer(serial))))
-
-    def renew(controls):
-        return say(repeated, wrong, by=home.keys["A"], tag=KUR, controls=controls)
+    def renew(*controls):
+        return say(repeated, wrong, by=home.keys["A"], tag=KUR, controls=sequence(*controls) if controls else b"")
 
     def duplicate(info, proved=wrong, by=home.device):
         return say(public(info), proved, by=by)
@@ -363,12 +382,14 @@ def keys(home):
     ]
     bad_id = [
         ("of another serial number", renew(old(4))),
+        ("of another serial number, before the right one", renew(old(4), old(3))),
         ("of another issuer", renew(old(3, directory_name(common_name("Other CA"))))),
         ("of a dNSName", renew(old(3, der(0x82, b"Fleet CA")))),
     ]
     duplicates = [
-        ("renewed without oldCertID", renew(b"")),
+        ("renewed without oldCertID", renew()),
         ("renewed with its oldCertID", renew(old(3))),
+        ("renewed with its oldCertID, before another one", renew(old(3), old(4))),
         ("that is listed", duplicate(home.signer.info)),
         ("that is revoked", duplicate(home.keys["G"].info)),
         ("that is held", duplicate(home.keys["C"].info)),
@@ -427,7 +448,7 @@ def granting(home):
     other = requests(CR, (asked(subject(new.name), public(other_key(b"odd"))), RA_VERIFIED))
     request = asked(subject(new.name), public(new.info))
     with_null = requests(IR, (request, der(0xA1, HSS_NULL, bits(new.sign(request)))))
-    old = sequence(sequence(oid("1.3.6.1.5.5.7.5.1.5"), sequence(directory_name(AUTHORITY), integer(3))))
+    without_null = {"algorithm": pbmac1(SALT, 1, prf=HMAC_BARE, mac=HMAC_BARE), "sign": lambda text: home.device.mac(SALT, 1, text)}
     not_implicit = sequence(sequence(oid("1.3.6.1.5.5.7.4.13"), octet_string(b"")))
 
     def extended(*extensions):
@@ -445,9 +466,11 @@ def granting(home):
         Row("an ir of version 3, without a time", say(enrolment(IR, new), pvno=3, at=None), granted(IP, wish)),
         Row("an ir, implicitly", say(enrolment(IR, new), info=sequence(IMPLICIT)), granted(IP, wish, implicit=True)),
         Row("an ir, with implicitConfirm out of form", say(enrolment(IR, new), info=not_implicit), granted(IP, wish)),
-        Row("an ir with an oldCertID", say(enrolment(IR, new, controls=old)), granted(IP, wish)),
+        Row("an ir with an oldCertID", say(enrolment(IR, new, controls=sequence(old(3)))), granted(IP, wish)),
         Row("an ir whose proof has parameters", say(with_null), granted(IP, wish)),
         Row("an ir after a change in the future", say(enrolment(IR, new), at=later), granted(IP, wish), moved=2 * SKEW),
+        Row("an ir with regInfo", say(requests(IR, (request, proof(new, request), sequence(NULL)))), granted(IP, wish)),
+        Row("an ir whose MAC's algorithms have no NULL", say(enrolment(IR, new), **without_null), granted(IP, wish)),
         Row("a cr", say(enrolment(CR, new)), granted(CP, wish)),
         Row("a cr with names and usage", say(full(extended(NAMED, SIGNS))), granted(CP, copied)),
         Row("a cr with basicConstraints", say(full(extended(extension(BASIC, sequence()), SIGNS, NAMED))), granted(CP, copied)),
@@ -455,7 +478,7 @@ def granting(home):
         Row("a cr with a validity", say(full(before=der(0xA4, NULL))), granted(CP, wish, mods=True)),
         Row("a p10cr", say(pkcs10(new)), granted(CP, wish, number=-1)),
         Row("a p10cr with extensions", say(pkcs10(new, attributes=attributes)), granted(CP, copied, number=-1, mods=True)),
-        Row("a kur", say(enrolment(KUR, new, controls=old), home.keys["A"]), granted(KUP, wish)),
+        Row("a kur", say(enrolment(KUR, new, controls=sequence(old(3))), home.keys["A"]), granted(KUP, wish)),
         Row("a cr of a certificate", say(enrolment(CR, new), home.keys["A"]), granted(CP, wish)),
         Row("a cr of a listed key", say(enrolment(CR, new), home.signer), granted(CP, wish)),
         Row("an ir that is vouched for", say(vouched, home.voucher), granted(IP, wish)),
