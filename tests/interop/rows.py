@@ -43,8 +43,6 @@ BAD = asked(number=1), der(0xA1, ED25519, bits(b"signature"))
 TWO = requests(IR, BAD, BAD)
 BAD_REVOCATION = revocations()
 BAD_CONFIRMATIONS = confirmations(confirmation(b"", algorithm=SHA512))
-
-
 NOBODY = directory_name(sequence())
 
 
