@@ -1,7 +1,7 @@
 ghost use Rattle.std.specs.Prelude.{◌≡◌, IfOk};
 ghost use Rattle.world_core.specs.Steps.{first_settings};
 
-use crate::logs::mounted;
+use crate::logs::{lapsed, mounted, ordered};
 use cmp_ports::{MemDisk, Octets, Order, Short};
 use deal_model::{Change, Settings};
 use desk::{Desk, FoundFault, Lapsed, Ordered};
@@ -59,32 +59,64 @@ fn is_first(change: &Change) -> bool {
     }
 }
 
+fn founded(alloc: Global) -> Result<Desk<MemDisk>, Fail> {
+    match found(alloc, MemDisk::new(Vec::new(alloc)))? {
+        Ok(desk) => Ok(desk),
+        Err(_) => Err("not founded".into()),
+    }
+}
+
+// Whether the desk has one change, and neither lapses anything nor obeys an order.
+fn is_idle(desk: &mut Desk<MemDisk>) -> bool {
+    desk.length() == 1
+        && lapsed(desk, 7) == Lapsed::Nothing
+        && ordered(desk, &Order::Release(Short::empty()), 7) == Ordered::NotHeld
+        && ordered(desk, &Order::Bad, 7) == Ordered::NotHeld
+}
+
+// Whether the founding is the one change of the desk.
+fn is_founded(desk: &Desk<MemDisk>) -> bool {
+    desk.length() == 1 && is_first(desk.change_at(1))
+}
+
+// The disk of a service that was founded and mounted again, where its desk is idle and then has its founding alone.
+fn founded_disk(alloc: Global) -> Result<Option<MemDisk>, Fail> {
+    let mut desk = founded(alloc)?;
+    if !is_idle(&mut desk) {
+        return Ok(None);
+    }
+    let desk = mounted(alloc, desk.into_disk())?;
+    if is_founded(&desk) {
+        Ok(Some(desk.into_disk()))
+    } else {
+        Ok(None)
+    }
+}
+
 #[test]
 fn a_service_is_founded_once(rt: HostRuntime) -> Result<(), Fail> {
-    let alloc = rt.alloc();
-    let Ok(mut desk) = found(alloc, MemDisk::new(Vec::new(alloc)))? else {
-        return Err("not founded")?;
+    let Some(disk) = founded_disk(rt.alloc())? else {
+        return Err("not founded".into());
     };
-    assert_eq!(rt; desk.length(), 1);
-    assert!(rt; desk.lapse(7) == Lapsed::Nothing);
-    assert!(rt; desk.order(&Order::Release(Short::empty()), 7) == Ordered::NotHeld);
-    assert!(rt; desk.order(&Order::Bad, 7) == Ordered::NotHeld);
-    let desk = mounted(alloc, desk.into_disk())?;
-    assert_eq!(rt; desk.length(), 1);
-    assert!(rt; is_first(desk.change_at(1)));
-    let disk = desk.into_disk();
     // Eight octets, a gate, four octets of length, a change of 167, and a closed gate.
-    assert_eq!(rt; disk.octets().len(), 181);
-    assert!(rt; fault_of(found(alloc, disk)?) == Some(FoundFault::Already));
+    assert!(rt; disk.octets().len() == 181);
+    assert!(rt; fault_of(found(rt.alloc(), disk)?) == Some(FoundFault::Already));
     Ok(())
+}
+
+// Why a service isn't founded on a disk of which this call fails.
+fn fault_at(alloc: Global, call: u64) -> Result<Option<FoundFault>, Fail> {
+    let fails = vec![in alloc; call]?;
+    Ok(fault_of(found(alloc, MemDisk::failing(Vec::new(alloc), fails))?))
 }
 
 #[test]
 fn a_disk_that_fails_is_not_founded(rt: HostRuntime) -> Result<(), Fail> {
-    let alloc = rt.alloc();
     for call in 1..=9u64 {
-        let disk = MemDisk::failing(Vec::new(alloc), vec![in alloc; call]?);
-        assert!(rt; fault_of(found(alloc, disk)?) == Some(FoundFault::DiskFault));
+        assert!(rt;
+            fault_at(rt.alloc(), call)? == Some(FoundFault::DiskFault),
+            "call {call}"
+        );
     }
     Ok(())
 }

@@ -1,10 +1,10 @@
 //! Logs that tests/vectors/log_vectors.py lays out with Python's `struct`, and the desks over them.
-ghost use Rattle.std.specs.Prelude.{◌≡◌, ◌<◌, length, IfOk};
+ghost use Rattle.std.specs.Prelude.{◌≡◌, ◌<◌, ◌≤◌, length, IfOk};
 ghost use Rattle.desk.specs.Listings.{AreFit};
 
-use cmp_ports::{MemDisk, Short};
+use cmp_ports::{MemDisk, Order, Short};
 use deal_model::{Change, Credential, CredentialList, Kind};
-use desk::Desk;
+use desk::{Desk, Lapsed, Listing, Ordered};
 use hex::decode;
 use std::alloc::{AllocError, Global};
 use std::test::Fail;
@@ -35,18 +35,23 @@ pub(crate) const HOLDER: &str =
 pub(crate) const HELD: &str =
     "01000001030501430405060708090a0b0c0d0e0f101112131415161718191a1b1c1d1e1f2021222301056465762d3200000017a41530133111300f06035504030c086465766963652d310210505152535455565758595a5b5c5d5e5f8485868788898a8b8c8d8e8f909192939495969798999a9b9c9d9e9fa0a1a2a3000000006553f10500040000001530133111300f06035504030c086465766963652d3100000050304e300d060b2a864886f70d0109100311033d0000000001000000050000000442434445464748494a4b4c4d4e4f505152535455565758595a5b5c5d5e5f606162636465666768696a6b6c6d6e6f707100000010300e0603551d0f0101ff04040302078000";
 
+fn add_record(alloc: Global, octets: &mut Vec<u8>, record: &str) -> Result<(), Fail> {
+    let more: Vec<u8> = decode(alloc, record)?;
+    octets.extend_from_slice(&more)?;
+    Ok(())
+}
+
 /// A log of these records, without its closed gate.
 pub(crate) fn open_log(alloc: Global, records: &[&str]) -> Result<Vec<u8>, Fail> {
     let mut octets: Vec<u8> = decode(alloc, FRONT)?;
     for record in records {
-        let more: Vec<u8> = decode(alloc, *record)?;
-        octets.extend_from_slice(&more)?;
+        add_record(alloc, &mut octets, record)?;
     }
     Ok(octets)
 }
 
-/// A disk with the log of these records.
-pub(crate) fn disk_of(alloc: Global, records: &[&str], fails: &[u64]) -> Result<MemDisk, Fail> {
+/// A disk with the log of these records, of which these calls fail.
+fn disk_of(alloc: Global, records: &[&str], fails: &[u64]) -> Result<MemDisk, Fail> {
     let mut octets = open_log(alloc, records)?;
     octets.push(0)?;
     Ok(MemDisk::failing(octets, fails.to_vec(alloc)?))
@@ -59,8 +64,18 @@ pub(crate) fn mounted(alloc: Global, disk: MemDisk) -> Result<Desk<MemDisk>, Fai
     }
 }
 
+/// The desk over a disk with the log of these records, of which these calls fail.
+pub(crate) fn desk_of(
+    alloc: Global,
+    records: &[&str],
+    fails: &[u64],
+) -> Result<Desk<MemDisk>, Fail> {
+    let disk = disk_of(alloc, records, fails)?;
+    mounted(alloc, disk)
+}
+
 /// One reference of one letter, with the right to enrol.
-pub(crate) fn reference(alloc: Global, letter: u8) -> Result<CredentialList, AllocError>
+fn reference(alloc: Global, letter: u8) -> Result<CredentialList, AllocError>
     requires { letter < 128 }
     ensures { IfOk result (λ list. AreFit list × (length list ≡ 1)) }
 {
@@ -80,16 +95,67 @@ pub(crate) fn reference(alloc: Global, letter: u8) -> Result<CredentialList, All
     ]?))
 }
 
-/// The letter of the reference that a change lists alone.
-pub(crate) fn letter_of(change: &Change) -> Option<u8> {
-    let Change::Enlist { list, .. } = change else {
+/// What the desk answers where a reference of this letter is to be listed. None where memory runs out.
+pub(crate) fn enlisted(alloc: Global, desk: &mut Desk<MemDisk>, letter: u8) -> Option<Listing>
+    requires { letter < 128 }
+{
+    let Ok(list) = reference(alloc, letter) else {
         return None;
     };
-    match list.as_slice() {
+    Some(desk.enlist(&list, NOW))
+}
+
+/// What the desk answers where a credential is to be dismissed.
+pub(crate) fn dismissed(desk: &mut Desk<MemDisk>, kind: Kind, kid: &Short) -> Listing {
+    desk.dismiss(kind, kid, NOW)
+}
+
+/// What the desk answers to an order.
+pub(crate) fn ordered(desk: &mut Desk<MemDisk>, order: &Order, now: u64) -> Ordered
+    requires { now ≤ 250000000000 }
+{
+    desk.order(order, now)
+}
+
+/// What the desk answers where a certificate is to lapse.
+pub(crate) fn lapsed(desk: &mut Desk<MemDisk>, now: u64) -> Lapsed
+    requires { now ≤ 250000000000 }
+{
+    desk.lapse(now)
+}
+
+/// What stands behind Found.
+#[derive(Clone, Copy, PartialEq, Eq)]
+pub(crate) enum Behind {
+    Nothing,
+    /// The list of one reference of this letter.
+    Letter(u8),
+    /// Anything else.
+    Other,
+}
+
+/// What stands behind the first change of the desk.
+pub(crate) fn found_behind(desk: &Desk<MemDisk>) -> Behind {
+    match desk.length() {
+        1 => Behind::Nothing,
+        2 => listed_in(desk.change_at(2)),
+        _ => Behind::Other,
+    }
+}
+
+fn listed_in(change: &Change) -> Behind {
+    match change {
+        Change::Enlist { list, .. } => letter_in(list.as_slice()),
+        _ => Behind::Other,
+    }
+}
+
+fn letter_in(list: &[Credential]) -> Behind {
+    match list {
         [credential] => match credential.kid.as_slice() {
-            [letter] => Some(*letter),
-            _ => None,
+            [letter] => Behind::Letter(*letter),
+            _ => Behind::Other,
         },
-        _ => None,
+        _ => Behind::Other,
     }
 }
