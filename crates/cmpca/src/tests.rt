@@ -4,6 +4,7 @@
 //! (`hashlib.pbkdf2_hmac('sha256', b'secret-1', salt, 1)` as the key, and `hmac.new(key, part, 'sha256')`, where part is
 //! the SEQUENCE of header and body).
 
+mod faults;
 mod init;
 mod journal;
 mod show;
