@@ -1,4 +1,4 @@
-"""Parses the requests and certificates that the tests of req_forms and x509_cert speak of, with OpenSSL and Bouncy Castle.
+"""Parses the requests and certificates that the tests of message_cases and x509_cert speak of, with OpenSSL and Bouncy Castle.
 
 The tests hold them whole and show that these very octets are written. The fields that are expected are written by
 hand.
@@ -16,7 +16,7 @@ import tempfile
 import certs
 
 HERE = os.path.dirname(os.path.abspath(__file__))
-TESTS = os.path.join(HERE, "..", "..", "crates", "req_forms", "src", "tests.rt")
+TESTS = os.path.join(HERE, "..", "..", "crates", "message_cases", "src", "request_vectors.rt")
 JARS = [os.path.join(os.environ.get("BCJARS", "/usr/share/java"), name + ".jar") for name in ("bcpkix", "bcprov", "bcutil")]
 
 HSS_LMS = "1.2.840.113549.1.9.16.3.17"

@@ -13,6 +13,3 @@ pub use frame::{Frame, MESSAGE_LIMIT, read_frame};
 pub use laws::{frame_begins_no_other, message_begins_no_other};
 pub use message::{Message, read_message};
 pub use writer::{protected_part, write_message};
-
-#[cfg(test)]
-mod tests;

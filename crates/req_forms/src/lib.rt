@@ -14,6 +14,3 @@ pub use pkcs10::{P10, read_p10};
 pub use possession::Popo;
 pub use requests::{CrmfList, CrmfReq, read_crmf};
 pub use wish::{CrmfWish, Proof, write_crmf, write_p10, write_p10_info};
-
-#[cfg(test)]
-mod tests;
