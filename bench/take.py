@@ -1,14 +1,15 @@
 """Times one `cmpca take` by the height of the reply key, and says where the seconds go.
 
-Words: the program, a folder to write in, and the heights. Of several runs the least time counts. `mount` is the whole of `show`;
-`keys` is what octets that are no message take beyond it, where both keys are grown and the authority's own certificates signed;
-`answer` is what a request that is granted takes beyond that.
+Words: the program, a folder to write in, and the heights. The seconds are the processor's, in which the disk's own time isn't; the runs
+are made in turns, and of each kind the least counts. `mount` is the whole of `show`; `keys` is what octets that are no message take
+beyond it, where both keys are grown and the authority's own certificates signed; `answer` is what a request that is granted takes
+beyond that.
 """
 
 import os
+import resource
 import subprocess
 import sys
-import time
 
 sys.path.insert(0, os.path.join(os.path.dirname(os.path.abspath(__file__)), "..", "tests", "interop"))
 import device  # noqa: E402
@@ -25,32 +26,28 @@ rounds = 1000
 check_after = 60
 days = 365
 """
-RUNS = {5: 7, 10: 5, 15: 1}
+TURNS = {5: 30, 10: 15, 15: 1}
 
 
 def seconds(words, content, wanted):
-    begun = time.perf_counter()
+    begun = resource.getrusage(resource.RUSAGE_CHILDREN)
     ended = subprocess.run(words, input=content, capture_output=True)
-    taken = time.perf_counter() - begun
+    spent = resource.getrusage(resource.RUSAGE_CHILDREN)
     if ended.returncode != wanted:
         sys.exit(f"{words[-1]}: status {ended.returncode}, {ended.stdout[:80]!r}")
-    return taken
+    return spent.ru_utime - begun.ru_utime + spent.ru_stime - begun.ru_stime
 
 
-def least(height, words, content, wanted):
-    return min(seconds(words, content, wanted) for _ in range(RUNS[height]))
-
-
-def granted(words, height, request):
-    """The seconds of a take that grants: the journal is put back before each run."""
+def least(words, height, request):
+    """The least seconds of `show`, of a take of no message and of a take that grants, in turns: the journal is put back before each."""
     with open(words[1], "rb") as file:
         before = file.read()
-    taken = []
-    for _ in range(RUNS[height]):
+    turns = []
+    for _ in range(TURNS[height]):
         with open(words[1], "wb") as file:
             file.write(before)
-        taken.append(seconds([*words, "take"], request, 0))
-    return min(taken)
+        turns.append((seconds([*words, "show"], b"", 0), seconds([*words, "take"], b"", 1), seconds([*words, "take"], request, 0)))
+    return map(min, zip(*turns))
 
 
 def main():
@@ -64,9 +61,7 @@ def main():
         words = [program, os.path.join(folder, "journal"), os.path.join(folder, "key")]
         seconds([*words, "init"], SETTINGS.format(tree=height // 5 + 4, ots=ots).encode(), 0)
         seconds([*words, "enlist"], CREDENTIALS.encode(), 0)
-        mount = least(height, [*words, "show"], b"", 0)
-        keys = least(height, [*words, "take"], b"", 1)
-        whole = granted(words, height, device.request())
+        mount, keys, whole = least(words, height, device.request())
         print(f"{height:6} {width:2} {whole:8.3f} {mount:8.3f} {keys - mount:8.3f} {whole - keys:8.3f}")
 
 
