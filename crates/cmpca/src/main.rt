@@ -1,6 +1,7 @@
 //! The certification authority's program. `cmpca verify SECRET` reads one CMP message from standard input and tells
 //! whether its PBMAC1 protection holds; `cmpca JOURNAL KEY init` founds an authority in a journal, `show` in the place of `init`
-//! tells how its history stands, and `enlist`, `dismiss`, `release` and `deny` change it by one change.
+//! tells how its history stands, and `enlist`, `dismiss`, `release` and `deny` change it by one change. `take` answers one CMP
+//! message of standard input, with the keys of the file KEY, and adds at most the change that the message makes.
 #![tactic(auto)]
 
 mod check;
