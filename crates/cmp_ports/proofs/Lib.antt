@@ -1,3 +1,4 @@
-mod ShortLemmas
+pub mod CountLemmas
+mod OrderLemmas
 mod StreamLemmas
 mod Tapes

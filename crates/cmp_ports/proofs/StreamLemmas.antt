@@ -1,6 +1,6 @@
 -- What a stream holds after one piece more.
 use Rattle.std.specs.Prelude.{ℕ, List, Option, Some, None, ◌≡◌, ◌≤◌, ◌+◌, ◌++◌, length, take, drop}
-use Rattle.std.proofs.Common.{take-append-drop, length-take-le, append_assoc}
+use Rattle.std.proofs.Common.{take-append-drop, length-take-le, length-append, append_assoc, arith}
 use Rattle.std.proofs.Math.Seq.{take-append-add}
 use Rattle.std.specs.Io.KnownBytes.{Appends, Keeps}
 use Rattle.cmp_ports.specs.Whole.{AppendsPrefix}
@@ -26,3 +26,10 @@ written_kept None mid new text done a b = (done, tt)
 written_kept (Some xs) None new text done a b = absurd a
 written_kept (Some xs) (Some ys) None text done a b = absurd b
 written_kept (Some xs) (Some ys) (Some zs) text done a b = (done, cc (a, b))
+
+-- what was read so far, and a piece that there is room for
+pub longer_front : (front into : List ℕ) (count most : ℕ) → count ≤ length into → length into + length front ≤ most → length (front ++ take count into) ≤ most
+longer_front front into count most given room =
+    let whole : length (front ++ take count into) ≡ length front + length (take count into) = length-append front (take count into) in
+    let piece : length (take count into) ≡ count = length-take-le count into given in
+    omega (arith, whole, piece, given, room)

@@ -1,6 +1,6 @@
 -- What an object in whose place the world stands gives call by call: readings of a clock, draws of random octets,
 -- orders of the operator.
-use Rattle.std.specs.Prelude.{◌≡◌, ℕ, zero, suc, min, List, [], ◌∷◌, drop, Option, Some, None, Result, Ok, Err, if◌then◌else◌}
+use Rattle.std.specs.Prelude.{◌≡◌, ℕ, ◌+◌, ◌<◌, length, zero, suc, min, List, [], ◌∷◌, drop, Option, Some, None, Result, Ok, Err, if◌then◌else◌}
 use Rattle.std.specs.List.{slice_get}
 use Rattle.cmp_ports.specs.Schedule.{counted, is_among}
 
@@ -9,6 +9,12 @@ abbrev pub Gives : {X : Type 0} → Option (ℕ → X) → Option (ℕ → X) �
 Gives None new x = Unit {0}
 Gives (Some old) None x = ⊥
 Gives (Some old) (Some new) x = (old zero ≡ x) × ((n : ℕ) → new n ≡ old (suc n))
+
+-- Some calls gave these values one after the other, and the others are still to come.
+abbrev pub GivesAll : {X : Type 0} → Option (ℕ → X) → Option (ℕ → X) → List X → Type 0
+GivesAll None new xs = Unit {0}
+GivesAll (Some old) None xs = ⊥
+GivesAll (Some old) (Some new) xs = ((n : ℕ) → n < length xs → slice_get xs n ≡ Some (old n)) × ((n : ℕ) → new n ≡ old (length xs + n))
 
 -- The call took the first of the things left, or found none left, or failed and took none.
 abbrev pub Takes : {X E : Type 0} → Option (List X) → Option (List X) → Result (Option X) E → Type 0

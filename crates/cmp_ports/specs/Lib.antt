@@ -1,15 +1,15 @@
 pub mod Coming
 pub mod Disk
 pub mod Faults
-pub mod Filled
+pub mod ListUp
 pub mod Lists
 pub mod MemDisk
 pub mod MemDiskLaws
 pub mod MemSink
 pub mod MemSource
 pub mod Moments
+pub mod OrderLine
 pub mod Orders
-pub mod Reasons
 pub mod Replay
 pub mod ReplayLaws
 pub mod Schedule

@@ -19,6 +19,10 @@ draws_of e = draw_of (listed_of e.schedule) e.schedule.calls (drop e.at e.draws.
 abbrev pub draw_faults : ListEntropy → ℕ
 draw_faults e = e.schedule.faults
 
+-- they are owned
+abbrev pub draw_loan : ListEntropy → ℕ
+draw_loan e = 0
+
 -- the orders that are left
 abbrev pub orders_of : ListOrders → List Order
 orders_of o = drop o.at o.orders.items

@@ -1,12 +1,9 @@
 -- Which calls of an object in memory fail.
-use Rattle.std.specs.Prelude.{ℕ, ◌+◌, ◌-◌, ◌^◌, min, Bool, List, [], Option, Some, None, nat_eq}
+use Rattle.std.specs.Prelude.{ℕ, Bool, List, [], Option, Some, None, nat_eq}
 use Rattle.std.specs.List.{list_any}
 use Rattle.std.specs.Global.{Vec}
 use Rattle.cmp_ports.specs.declared.schedule.Schedule.{Schedule}
-
--- a count after one more, which stays at its type's last value
-abbrev pub counted : ℕ → ℕ
-counted count = min (count + 1) (2 ^ 64 - 1)
+pub use Rattle.cmp_ports.specs.Faults.{counted}
 
 -- the numbers of a list of calls that fail
 abbrev pub numbers_of : Option (Vec ℕ) → List ℕ

@@ -5,7 +5,7 @@ ghost use Rattle.std.specs.Prelude.{◌≡◌, None};
 #[cfg(test)]
 mod tests;
 
-use crate::counted::counted;
+use crate::counted::Tally;
 use crate::file_source::open_to_read;
 use crate::{Entropy, Failed};
 use std::fs::File;
@@ -19,7 +19,7 @@ pub struct FileEntropy<R: Files<File = File> + Drop> {
     files: R,
     path: String,
     file: Option<File>,
-    faults: u64,
+    tally: Tally,
 }
 
 fn fill<R: Files<File = File>>(
@@ -35,26 +35,38 @@ fn fill<R: Files<File = File>>(
 impl<R: Files<File = File> + Drop> FileEntropy<R> {
     /// The file of this path, in the runtime's file system. It isn't opened yet.
     pub fn new(files: R, path: String) -> FileEntropy<R>
-        ensures { result.faults ≡ 0 }
+        ensures { result.tally.count ≡ 0 }
     {
         FileEntropy {
             files,
             path,
             file: None,
-            faults: 0,
+            tally: Tally::new(),
         }
+    }
+
+    /// The path.
+    pub fn path(&self) -> &str {
+        self.path.as_str()
+    }
+
+    /// Why the last call that failed did.
+    pub fn why(&self) -> Option<io::Error>
+        ensures { result ≡ self.now.tally.last }
+    {
+        self.tally.why()
     }
 }
 
 impl<R: Files<File = File> + Drop> Entropy for FileEntropy<R> {
     ghost draws = { λ _. None };
 
-    ghost faults = { λ e. e.faults };
+    ghost faults = { λ e. e.tally.count };
 
     ghost loan = { λ _. 0 };
 
     fn draw(&mut self, into: &mut [u8; 32]) -> Result<(), Failed> {
         let answer = fill(&self.files, self.path.as_str(), &mut self.file, into);
-        counted(&mut self.faults, answer)
+        self.tally.note(answer)
     }
 }

@@ -1,5 +1,5 @@
 //! The orders of a real file, one a line. What it holds is not told, so no clause says that its lines are the orders.
-ghost use Rattle.std.specs.Prelude.{◌≡◌, ◌+◌, ◌≤◌, None};
+ghost use Rattle.std.specs.Prelude.{◌≡◌, ℕ, ◌+◌, ◌≤◌, List, [], ◌∷◌, ◌++◌, None};
 ghost use Rattle.cmp_ports.specs.Faults.{HasCause};
 
 #[cfg(test)]
@@ -9,10 +9,14 @@ use crate::file_source::FileSource;
 use crate::order::{Order, order_of_line};
 use crate::{Failed, Orders, Source};
 use std::fs::File;
+use std::io;
 use std::rt::Files;
 
 /// The most octets of a line without its end. A longer one is a fault.
 const LINE_LIMIT: usize = 65_536;
+
+/// What is told of a longer one.
+const TOO_LONG: &str = "a line of more than 65,536 octets";
 
 /// One octet more than the longest line that spells an order, `release ` and 128 digits. A line that fills it is a bad
 /// order, whatever follows.
@@ -29,7 +33,7 @@ struct Line {
 }
 
 /// The file of this path, whose lines end by LF and are orders, from the first to the last; octets after the last LF
-/// are one line more. The first call opens the file; where it can't be opened, each call tries again. A line of more
+/// are one line more. Where the file has grown since its end was told, the next call reads on. The first call opens the file; where it can't be opened, each call tries again. A line of more
 /// than 65,536 octets is a fault of each call from there on, since a `Failed` takes no order.
 #[derive(Drop)]
 pub struct FileOrders<R: Files<File = File> + Drop> {
@@ -44,8 +48,12 @@ pub struct FileOrders<R: Files<File = File> + Drop> {
 }
 
 impl Line {
+    ghost use Rattle.cmp_ports.specs.OrderLine.{IsLine};
+    ghost use Rattle.cmp_ports.specs.Orders.{IsOrderLine};
+
     fn empty() -> Line
-        ensures { result.len ≡ 0 }
+        ensures len { result.len ≡ 0 }
+        ensures line { IsLine result [] }
     {
         Line {
             first: [0; KEPT],
@@ -53,9 +61,11 @@ impl Line {
         }
     }
 
+    // One octet more of the line.
     fn push(&mut self, octet: u8)
         requires { self.old.len ≤ 65536 }
-        ensures { self.new.len ≡ self.old.len + 1 }
+        ensures len { self.new.len ≡ self.old.len + 1 }
+        ensures line { (line : List ℕ) → IsLine self.old line → IsLine self.new (line ++ octet ∷ []) }
     {
         if self.len < KEPT {
             self.first[self.len] = octet;
@@ -64,15 +74,20 @@ impl Line {
     }
 
     // The order of the line.
-    fn order(&self) -> Order {
+    fn order(&self) -> Order
+        ensures order { (line : List ℕ) → IsLine self.now line → IsOrderLine line result }
+    {
         order_of_line(&self.first[..self.len.min(KEPT)])
     }
 }
 
 impl<R: Files<File = File> + Drop> FileOrders<R> {
+    ghost use Rattle.cmp_ports.specs.OrderLine.{IsLine};
+    ghost use Rattle.cmp_ports.specs.Orders.{IsOrderLine};
+
     /// The file of this path, in the runtime's file system. It isn't opened yet.
     pub fn new(files: R, path: String) -> FileOrders<R>
-        ensures { result.source.faults ≡ 0 }
+        ensures { result.source.tally.count ≡ 0 }
     {
         FileOrders {
             source: FileSource::new(files, path),
@@ -83,9 +98,19 @@ impl<R: Files<File = File> + Drop> FileOrders<R> {
         }
     }
 
+    /// The path.
+    pub fn path(&self) -> &str {
+        self.source.path()
+    }
+
+    /// Why the last call that failed did.
+    pub fn why(&self) -> Option<io::Error> {
+        self.source.why()
+    }
+
     // The next octet of the file, where there is one.
     fn octet(&mut self) -> Result<Option<u8>, Failed>
-        ensures cause { HasCause self.old.source.faults self.new.source.faults result }
+        ensures cause { HasCause self.old.source.tally.count self.new.source.tally.count result }
         ensures line { self.new.line.len ≡ self.old.line.len }
     {
         if self.at == self.end {
@@ -103,7 +128,9 @@ impl<R: Files<File = File> + Drop> FileOrders<R> {
 
     // The order of the line so far, after which another line begins.
     fn finish(&mut self) -> Order
-        ensures { self.new.source.faults ≡ self.old.source.faults }
+        ensures faults { self.new.source.tally.count ≡ self.old.source.tally.count }
+        ensures order { (line : List ℕ) → IsLine self.old.line line → IsOrderLine line result }
+        ensures next { IsLine self.new.line [] }
     {
         let order = self.line.order();
         self.line = Line::empty();
@@ -114,7 +141,7 @@ impl<R: Files<File = File> + Drop> FileOrders<R> {
 impl<R: Files<File = File> + Drop> Orders for FileOrders<R> {
     ghost left = { λ _. None };
 
-    ghost faults = { λ o. o.source.faults };
+    ghost faults = { λ o. o.source.tally.count };
 
     fn next(&mut self) -> Result<Option<Order>, Failed> {
         while self.line.len <= LINE_LIMIT {
@@ -125,6 +152,6 @@ impl<R: Files<File = File> + Drop> Orders for FileOrders<R> {
                 None => return Ok(Some(self.finish())),
             }
         }
-        Err(self.source.fault())
+        Err(self.source.fault(TOO_LONG))
     }
 }

@@ -6,10 +6,11 @@ ghost use Rattle.cmp_ports.specs.Untold.{untold};
 #[cfg(test)]
 mod tests;
 
-use crate::counted::counted;
+use crate::again::read_again;
+use crate::counted::Tally;
 use crate::{Failed, Source};
 use std::fs::{File, OpenOptions};
-use std::io::{self, Read};
+use std::io::{self, ErrorKind};
 use std::rt::Files;
 
 /// The file of this path, read from its front. The first call opens it; where it can't be opened, each call tries
@@ -19,7 +20,7 @@ pub struct FileSource<R: Files<File = File> + Drop> {
     files: R,
     path: String,
     file: Option<File>,
-    faults: u64,
+    tally: Tally,
 }
 
 // Opens the file for reading, where it isn't open.
@@ -47,39 +48,51 @@ fn read_some<R: Files<File = File>>(
     ensures { IfOk result (λ n. n ≤ length into.new) }
 {
     open_to_read(files, path, file)?;
-    file.as_mut().unwrap().read(into)
+    read_again(file.as_mut().unwrap(), into)
 }
 
 impl<R: Files<File = File> + Drop> FileSource<R> {
     /// The file of this path, in the runtime's file system. It isn't opened yet.
     pub fn new(files: R, path: String) -> FileSource<R>
-        ensures { result.faults ≡ 0 }
+        ensures { result.tally.count ≡ 0 }
     {
         FileSource {
             files,
             path,
             file: None,
-            faults: 0,
+            tally: Tally::new(),
         }
     }
 
-    // Counts a fault of what was read.
-    pub(crate) fn fault(&mut self) -> Failed
-        ensures rose { Rose self.old.faults self.new.faults }
-        ensures later { self.old.faults ≤ self.new.faults }
+    /// The path.
+    pub fn path(&self) -> &str {
+        self.path.as_str()
+    }
+
+    /// Why the last call that failed did.
+    pub fn why(&self) -> Option<io::Error>
+        ensures { result ≡ self.now.tally.last }
     {
-        self.faults = self.faults.saturating_add(1);
-        Failed
+        self.tally.why()
+    }
+
+    // Counts a fault of what was read, and why it is one.
+    pub(crate) fn fault(&mut self, words: &str) -> Failed
+        ensures rose { Rose self.old.tally.count self.new.tally.count }
+        ensures later { self.old.tally.count ≤ self.new.tally.count }
+    {
+        self.tally
+            .fault(io::Error::new(ErrorKind::InvalidData, words))
     }
 }
 
 impl<R: Files<File = File> + Drop> Source for FileSource<R> {
     ghost left = { λ _. untold };
 
-    ghost faults = { λ s. s.faults };
+    ghost faults = { λ s. s.tally.count };
 
     fn read(&mut self, into: &mut [u8]) -> Result<usize, Failed> {
         let answer = read_some(&self.files, self.path.as_str(), &mut self.file, into);
-        counted(&mut self.faults, answer)
+        self.tally.note(answer)
     }
 }

@@ -52,15 +52,22 @@ impl ListEntropy {
 }
 
 impl Entropy for ListEntropy {
-    ghost use Rattle.cmp_ports.specs.Lists.{draws_of, draw_faults};
+    ghost use Rattle.cmp_ports.specs.Coming.{Gives, drawn};
+    ghost use Rattle.cmp_ports.specs.Faults.{CountedOnce, HasCause};
+    ghost use Rattle.cmp_ports.specs.Lists.{draws_of, draw_faults, draw_loan};
 
     ghost draws = { λ e. Some (draws_of e) };
 
     ghost faults = { λ e. draw_faults e };
 
-    ghost loan = { λ _. 0 };
+    ghost loan = { draw_loan };
 
-    fn draw(&mut self, into: &mut [u8; 32]) -> Result<(), Failed> {
+    fn draw(&mut self, into: &mut [u8; 32]) -> Result<(), Failed>
+        ensures draws { Gives (Some (draws_of self.old)) (Some (draws_of self.new)) (drawn result into.new) }
+        ensures cause { HasCause (draw_faults self.old) (draw_faults self.new) result }
+        ensures loan { draw_loan self.new ≡ draw_loan self.old }
+        ensures once { CountedOnce (draw_faults self.old) (draw_faults self.new) result }
+    {
         self.schedule.call()?;
         if self.at == self.draws.len() {
             return Err(self.schedule.fault());

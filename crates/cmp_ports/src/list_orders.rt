@@ -57,7 +57,7 @@ impl ListOrders {
 impl Orders for ListOrders {
     ghost use Rattle.cmp_ports.specs.Lists.{orders_of, order_faults, order_listed, order_calls, is_order_due};
     ghost use Rattle.cmp_ports.specs.Coming.{Takes};
-    ghost use Rattle.cmp_ports.specs.Faults.{HasCause};
+    ghost use Rattle.cmp_ports.specs.Faults.{CountedOnce, HasCause};
     ghost use Rattle.cmp_ports.specs.Schedule.{counted};
 
     ghost left = { λ o. Some (orders_of o) };
@@ -67,6 +67,7 @@ impl Orders for ListOrders {
     fn next(&mut self) -> Result<Option<Order>, Failed>
         ensures takes { Takes (Some (orders_of self.old)) (Some (orders_of self.new)) result }
         ensures cause { HasCause (order_faults self.old) (order_faults self.new) result }
+        ensures once { CountedOnce (order_faults self.old) (order_faults self.new) result }
         ensures fails { IsErr result ↔ IsTrue (is_order_due self.old) }
         ensures listed { order_listed self.new ≡ order_listed self.old }
         ensures calls { order_calls self.new ≡ counted (order_calls self.old) }

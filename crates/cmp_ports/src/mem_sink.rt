@@ -63,7 +63,7 @@ impl MemSink {
 impl Sink for MemSink {
     ghost use Rattle.cmp_ports.specs.MemSink.{written_of, faults_of, listed_of, calls_of, is_due};
     ghost use Rattle.cmp_ports.specs.Schedule.{counted};
-    ghost use Rattle.cmp_ports.specs.Faults.{HasCause};
+    ghost use Rattle.cmp_ports.specs.Faults.{CountedOnce, HasCause};
 
     ghost written = { λ s. Some (written_of s) };
 
@@ -75,6 +75,7 @@ impl Sink for MemSink {
         ensures some { IfOk result (λ n. 0 < length bytes.now → 0 < n) }
         ensures bytes { WriteAppends (Some (written_of self.old)) (Some (written_of self.new)) result bytes.now }
         ensures cause { HasCause (faults_of self.old) (faults_of self.new) result }
+        ensures once { CountedOnce (faults_of self.old) (faults_of self.new) result }
         ensures fails { IsTrue (is_due self.old) → IsErr result }
         ensures listed { listed_of self.new ≡ listed_of self.old }
         ensures calls { calls_of self.new ≡ counted (calls_of self.old) }

@@ -66,7 +66,7 @@ impl MemSource {
 impl Source for MemSource {
     ghost use Rattle.cmp_ports.specs.MemSource.{left_of, faults_of, listed_of, calls_of, is_due};
     ghost use Rattle.cmp_ports.specs.Schedule.{counted};
-    ghost use Rattle.cmp_ports.specs.Faults.{HasCause};
+    ghost use Rattle.cmp_ports.specs.Faults.{CountedOnce, HasCause};
 
     ghost left = { λ s. Some (left_of s) };
 
@@ -77,6 +77,7 @@ impl Source for MemSource {
         ensures bound { ReadsAtMost result into.new }
         ensures bytes { ReadConsumes (Some (left_of self.old)) (Some (left_of self.new)) result into.new }
         ensures cause { HasCause (faults_of self.old) (faults_of self.new) result }
+        ensures once { CountedOnce (faults_of self.old) (faults_of self.new) result }
         ensures fails { IsErr result ↔ IsTrue (is_due self.old) }
         ensures listed { listed_of self.new ≡ listed_of self.old }
         ensures calls { calls_of self.new ≡ counted (calls_of self.old) }

@@ -4,8 +4,7 @@ ghost use Rattle.cmp_ports.specs.Faults.{Rose};
 ghost use Rattle.cmp_ports.specs.declared.note.Answered.{Answered};
 ghost use Rattle.cmp_ports.specs.declared.note.Answered.TheVariants.{Failed, NoMemory};
 
-use crate::fail_info::FailInfo;
-use crate::octets::Octets;
+use cmp_values::{FailInfo, Octets};
 
 /// How a message ended.
 #[derive(Clone, Copy, Debug, PartialEq, Eq)]

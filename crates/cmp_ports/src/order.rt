@@ -2,7 +2,7 @@
 ghost use Rattle.std.specs.Prelude.{◌≡◌, List, Some, IfSome, ℕ};
 ghost use Rattle.cmp_ports.specs.Orders.{SpellsTid, IsOrderLine};
 
-use crate::short::{SHORT_LIMIT, Short};
+use cmp_values::{SHORT_LIMIT, Short};
 
 /// What is to become of a held request, by its transactionID of 1 to 64 octets.
 #[derive(Clone, Copy, Debug, PartialEq, Eq)]

@@ -1,6 +1,6 @@
 //! Which calls of an object in memory fail.
 ghost use Rattle.std.specs.Prelude.{◌≡◌, ◌↔◌, ◌≤◌, [], IsErr, IsTrue};
-ghost use Rattle.cmp_ports.specs.Faults.{HasCause, Rose};
+ghost use Rattle.cmp_ports.specs.Faults.{CountedOnce, HasCause, Rose};
 ghost use Rattle.cmp_ports.specs.Schedule.{is_due, is_among, listed_of, counted};
 
 use crate::faults::Failed;
@@ -45,6 +45,7 @@ impl Schedule {
     pub fn call(&mut self) -> Result<(), Failed>
         ensures due { IsErr result ↔ IsTrue (is_due self.old) }
         ensures cause { HasCause self.old.faults self.new.faults result }
+        ensures once { CountedOnce self.old.faults self.new.faults result }
         ensures calls { self.new.calls ≡ counted self.old.calls }
         ensures fails { listed_of self.new ≡ listed_of self.old }
     {
@@ -68,6 +69,7 @@ impl Schedule {
 
     /// Counts a fault.
     pub fn fault(&mut self) -> Failed
+        ensures once { self.new.faults ≡ counted self.old.faults }
         ensures rose { Rose self.old.faults self.new.faults }
         ensures later { self.old.faults ≤ self.new.faults }
         ensures calls { self.new.calls ≡ self.old.calls }

@@ -2,7 +2,7 @@
 ghost use Rattle.std.specs.Prelude.{◌≡◌, ℕ, ◌+◌, ◌^◌, ◌<◌, ◌≤◌, take, IfOk, OnOk, OnErr, IfSome, IsErrOf, vec_len};
 ghost use Rattle.std.specs.Io.KnownBytes.{Appends, Consumes};
 ghost use Rattle.cmp_ports.specs.Faults.{HasCause, Rose};
-ghost use Rattle.cmp_ports.specs.Whole.{AppendsPrefix};
+ghost use Rattle.cmp_ports.specs.Whole.{AppendsPrefix, TakesUpTo};
 
 use crate::faults::Failed;
 use crate::sink::Sink;
@@ -54,6 +54,9 @@ pub fn read_up_to<S: Source>(
     ensures octets { IfOk result (λ octets. IfSome (S.left source.old) (λ all. octets.items ≡ take (limit + 1) all)) }
     ensures taken { IfOk result (λ octets. Consumes (S.left source.old) (S.left source.new) octets.items) }
     ensures bound { IfOk result (λ octets. vec_len octets ≤ limit + 1) }
+
+    // After every answer the source has lost some first octets, at most one more than the limit.
+    ensures within { TakesUpTo (limit + 1) (S.left source.old) (S.left source.new) }
 
     // The count of faults stands where the source is read, and has risen after `Fault`.
     ensures later { S.faults source.old ≤ S.faults source.new }

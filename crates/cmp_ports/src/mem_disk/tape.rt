@@ -5,7 +5,7 @@ ghost use Rattle.cmp_ports.specs.Replay.{content_step, content_after};
 
 use super::call::Call;
 use crate::Octets;
-use std::alloc::AllocError;
+use std::alloc::{AllocError, Global};
 
 #[derive(Drop)]
 pub(crate) struct Tape {
@@ -87,6 +87,11 @@ impl Tape {
         }
     }
 
+    /// Where the octets get their memory.
+    pub(crate) fn allocator(&self) -> Global {
+        *self.octets.allocator()
+    }
+
     /// What reads give.
     pub(crate) fn octets(&self) -> &[u8]
         ensures { result.now ≡ self.now.octets.items }
@@ -113,6 +118,8 @@ impl Tape {
 
     /// Puts a call that moved nothing on the record.
     pub(crate) fn stand(&mut self) -> Result<(), AllocError>
+        ensures calls { self.new.calls.items ≡ (if is_ok result then self.old.calls.items ++ Call.Still ∷ [] else self.old.calls.items) }
+        ensures first { tape_first self.new ≡ tape_first self.old }
         ensures octets { self.new.octets.items ≡ self.old.octets.items }
         ensures crash { Among (tape_images self.old) (tape_images self.new) }
         ensures kept { Among (tape_images self.new) (tape_images self.old) }
@@ -124,6 +131,8 @@ impl Tape {
     /// Puts a sync on the record.
     pub(crate) fn settle(&mut self) -> Result<(), AllocError>
         ensures durable { OnOk result (Settled (Some self.new.octets.items) (tape_images self.new)) }
+        ensures calls { self.new.calls.items ≡ (if is_ok result then self.old.calls.items ++ Call.Synced ∷ [] else self.old.calls.items) }
+        ensures first { tape_first self.new ≡ tape_first self.old }
         ensures octets { self.new.octets.items ≡ self.old.octets.items }
         ensures crash { Among (tape_images self.old) (tape_images self.new) }
         ensures time { Elapses (tape_moment self.old) (tape_moment self.new) (tape_since self.old) (tape_since self.new) (tape_images self.new) }
@@ -134,6 +143,9 @@ impl Tape {
     /// Puts a write on the record, and does it where it is to be done.
     pub(crate) fn write(&mut self, at: u64, bytes: &[u8], done: bool) -> Result<(), AllocError>
         requires { at ≤ length self.old.octets.items }
+        ensures calls { self.new.calls.items ≡ (if is_ok result then self.old.calls.items ++ (Call.Wrote at bytes.now done) ∷ [] else self.old.calls.items) }
+        ensures first { tape_first self.new ≡ tape_first self.old }
+        ensures undone { OnErr result (self.new.octets.items ≡ self.old.octets.items) }
         ensures written { OnOk result (self.new.octets.items ≡ (if done then overwritten at bytes.now self.old.octets.items else self.old.octets.items)) }
         ensures crash { Follows (Torn at (length bytes.now)) (tape_images self.old) (tape_images self.new) }
         ensures time { Elapses (tape_moment self.old) (tape_moment self.new) (tape_since self.old) (tape_since self.new) (tape_images self.new) }

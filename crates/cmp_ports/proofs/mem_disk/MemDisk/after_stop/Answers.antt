@@ -15,4 +15,4 @@ stopped choice first first' calls calls' left same_first same_calls is =
 pub returns-clause-image : goal.returns-clause-image
 returns-clause-image c =
     let calls : c.split_at.result.0.now ≡ take c.args.calls (memory_calls c.args.self.now) = c.split_at.ensures.front ∙ ap (λ (l : List Call). take c.args.calls l) c.calls.ensures in
-    stopped c.args.choice (memory_first c.args.self.now) c.first.result.now _ c.split_at.result.0.now _ c.first.ensures calls (c.new.ensures.content ∙ c.in_ok-left.ensures)
+    stopped c.args.choice (memory_first c.args.self.now) c.first.result.now _ c.split_at.result.0.now _ c.first.ensures calls (c.new.ensures.fresh.content ∙ c.in_ok-left.ensures)

@@ -1,6 +1,6 @@
 //! Why a request is refused.
 ghost use Rattle.std.specs.Prelude.{◌≡◌, ◌<◌, ◌↔◌, Some};
-ghost use Rattle.cmp_ports.specs.declared.fail_info.FailInfo.{FailInfo};
+ghost use Rattle.cmp_values.specs.declared.fail_info.FailInfo.{FailInfo};
 
 /// A reason of refusal: of PKIFailureInfo (RFC 9810, 5.2.3) the twenty that are written, and that have a name where they are
 /// read.
@@ -48,7 +48,7 @@ pub enum FailInfo {
     DuplicateCertReq,
 }
 
-ghost use Rattle.cmp_ports.specs.Reasons.{bit_of, name_of};
+ghost use Rattle.cmp_values.specs.Reasons.{bit_of, name_of};
 
 impl FailInfo {
     /// The number of its bit, counted from the highest of the first octet.

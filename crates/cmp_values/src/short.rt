@@ -20,8 +20,8 @@ impl Model for Short {
 
     ghost Value = { List ℕ };
 
-    ghost use Rattle.cmp_ports.specs.Filled.{IsFilled};
-    ghost use Rattle.cmp_ports.specs.Filled.{filled_octets, filled_len};
+    ghost use Rattle.cmp_values.specs.Filled.{IsFilled};
+    ghost use Rattle.cmp_values.specs.Filled.{filled_octets, filled_len};
 
     ghost view = { λ s. take s.len s.octets };
 

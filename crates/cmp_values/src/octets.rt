@@ -1,5 +1,5 @@
 //! A list of octets that owns its memory.
-ghost use Rattle.std.specs.Prelude.{◌≡◌, ◌==◌, List, [], ◌++◌, length, take, IfOk, OnOk, OnErr};
+ghost use Rattle.std.specs.Prelude.{◌≡◌, ◌==◌, List, [], ◌++◌, length, take, drop, IfOk, OnOk, OnErr};
 
 use std::alloc::{AllocError, Global};
 use std::marker::Model;
@@ -85,6 +85,15 @@ impl Octets {
         ensures { self.new ≡ take n self.old }
     {
         self.bytes.truncate(n);
+    }
+
+    /// Takes the first `n` octets away, or all where there are fewer, and keeps the memory.
+    pub fn drop_first(&mut self, n: usize)
+        ensures { self.new ≡ drop n self.old }
+    {
+        let count = n.min(self.bytes.len());
+        self.bytes.rotate_left(count);
+        self.bytes.truncate(self.bytes.len() - count);
     }
 
     /// Takes all octets away and keeps the memory.

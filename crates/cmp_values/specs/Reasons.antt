@@ -1,7 +1,7 @@
 -- Reasons of refusal (PKIFailureInfo, RFC 9810, 5.2.3).
 use Rattle.std.specs.Prelude.{ℕ, List, codes}
-use Rattle.cmp_ports.specs.declared.fail_info.FailInfo.{FailInfo}
-use Rattle.cmp_ports.specs.declared.fail_info.FailInfo.TheVariants as reason
+use Rattle.cmp_values.specs.declared.fail_info.FailInfo.{FailInfo}
+use Rattle.cmp_values.specs.declared.fail_info.FailInfo.TheVariants as reason
 
 -- the bit of each
 abbrev pub bit_of : FailInfo → ℕ

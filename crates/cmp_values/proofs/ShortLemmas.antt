@@ -3,7 +3,7 @@ use Rattle.std.specs.Prelude.{ℕ, List, ◌≡◌, ◌≤◌, ◌++◌, length,
 use Rattle.std.proofs.Common.{arith}
 use Rattle.std.proofs.lemmas.List.{drop-replicate, length-replicate, length-append, length-drop}
 use Rattle.std.proofs.Math.Seq.{drop-append_seam}
-use Rattle.cmp_ports.specs.Filled.{IsFilled}
+use Rattle.cmp_values.specs.Filled.{IsFilled}
 
 -- at most 64 octets in front of what a blank array has behind them
 pub filled_copy : (used bytes : List ℕ) → used ≡ bytes → length bytes ≤ 64

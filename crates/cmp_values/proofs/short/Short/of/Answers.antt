@@ -1,5 +1,5 @@
-use Rattle.cmp_ports.proofs.ShortLemmas.{filled_copy}
-use Rattle.cmp_ports.proofs.short.Short.of.Goals as goal
+use Rattle.cmp_values.proofs.ShortLemmas.{filled_copy}
+use Rattle.cmp_values.proofs.short.Short.of.Goals as goal
 
 -- src/short.rt:55:9
 pub invariant_of-result : goal.invariant_of-result

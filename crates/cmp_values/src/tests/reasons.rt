@@ -1,6 +1,6 @@
-//! The reasons of refusal and the points of an answer.
+//! The reasons of refusal.
 
-use crate::{FailInfo, Gate, OpenGate, Point};
+use crate::FailInfo;
 
 /// The bits and names that RFC 9810, 5.2.3, gives, without those of its seven reasons that have no name here.
 const REASONS: &[(u8, &[u8])] = &[
@@ -33,11 +33,4 @@ fn each_reason_has_the_name_of_its_bit(rt: HostRuntime) {
         assert_eq!(rt; fail.map(FailInfo::name), Some(*name), "{bit}");
         assert_eq!(rt; fail.map(FailInfo::bit), Some(*bit), "{bit}");
     }
-}
-
-#[test]
-fn an_open_gate_holds_nobody(rt: HostRuntime) {
-    let mut gate = OpenGate::new(&rt);
-    gate.pass(Point::Looked);
-    gate.pass(Point::Idle);
 }
