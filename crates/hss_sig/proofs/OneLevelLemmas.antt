@@ -1,15 +1,17 @@
 -- The keys and signatures of one level.
-use Rattle.std.proofs.Common.{◌≡◌, ℕ, zero, suc, List, ◌^◌, ◌<◌, ◌≤◌, ◌++◌, length, refl, sym, ◌∙◌, ap, arith, length-append, true, false}
+use Rattle.std.proofs.Common.{◌≡◌, ℕ, zero, suc, List, ◌+◌, ◌*◌, ◌/◌, ◌^◌, ◌<◌, ◌≤◌, ◌++◌, length, refl, sym, ◌∙◌, ap, arith, length-append, true, false}
 use Rattle.std.specs.Prelude.{Bool, Option, None, Some, MatchOption, IsSome, nat_le, ◌==◌, if◌then◌else◌}
 use Rattle.std.specs.Int.{w32, to_be_bytes}
 use Rattle.sha2.proofs.Facts256.{length-sha256}
 use Rattle.lms_params.specs.Parameters.{OtsRow, ots_row, tree_height}
-use Rattle.lms_tree.specs.Nodes.{node_within, node, leaf_hash, inner_hash}
+use Rattle.lm_ots.specs.Signatures.{ots_signature}
+use Rattle.lm_ots.proofs.Law.{length-ots_signature}
+use Rattle.lms_tree.specs.Nodes.{node_within, node, leaf_hash, inner_hash, sibling, path}
 use Rattle.lms_tree.specs.Keys.{Secret, ForKnown, IsPublicKey, IsSignature, keys_of, public_key, tree_signature}
 use Rattle.lms_tree.specs.Verifies.{LmsOk}
 use Rattle.lms_tree.proofs.Law.{lms_ok}
 use Rattle.hss_sig.specs.Hss.{HssOk}
-use Rattle.hss_sig.specs.OneLevel.{octets_of, power_of, leaf_count, hss_key, hss_signature, IsSized}
+use Rattle.hss_sig.specs.OneLevel.{octets_of, power_of, leaf_count, hss_key, hss_signature, IsSized, SignaturesAreSized}
 
 -- a public key has 56 octets
 length_of_choice : (b : Bool) (x y : List ℕ) (n : ℕ) → length x ≡ n → length y ≡ n → length (if b then x else y) ≡ n
@@ -109,3 +111,34 @@ unfolding hss_signature
 signature_is s q text part whole is known =
     octets_are (tree_height s.tree) (ots_row s.ots) (λ h row. tree_signature h row s q text) (λ h row. to_be_bytes w32 0 ++ tree_signature h row s q text)
     (to_be_bytes w32 0) part whole (λ h row. refl) is known
+
+-- how long a signature is
+length-path : (keys : ℕ → List ℕ) (id : List ℕ) (h n r : ℕ) → length (path keys id h n r) ≡ 32 * n
+unfolding path node
+length-path keys id h zero r = refl
+length-path keys id h (suc n) r =
+    let one = length-node_within keys id h h (sibling r) in
+    let more = length-path keys id h n (r / 2) in
+    omega (arith, one, more, length-append (node_within keys id h h (sibling r)) (path keys id h n (r / 2)))
+
+length-signature : (h : ℕ) (row : OtsRow) (s : Secret) (q : ℕ) (text : List ℕ) → length (to_be_bytes w32 0 ++ tree_signature h row s q text) ≡ 48 + 32 * row.p + 32 * h
+unfolding tree_signature
+length-signature h row s q text =
+    let ots : List ℕ = ots_signature row s.ots s.seed s.id q text in
+    let way : List ℕ = path (keys_of row s) s.id h h (2 ^ h + q) in
+    omega (
+      arith,
+      length-ots_signature row s.ots s.seed s.id q text,
+      length-path (keys_of row s) s.id h h (2 ^ h + q),
+      length-append (to_be_bytes w32 q ++ ots ++ to_be_bytes w32 s.tree) way,
+      length-append (to_be_bytes w32 q ++ ots) (to_be_bytes w32 s.tree),
+    )
+
+known_octets : (o : Option ℕ) (r : Option OtsRow) (f : ℕ → OtsRow → List ℕ) (h : ℕ) (row : OtsRow) → o ≡ Some h → r ≡ Some row → octets_of o r f ≡ f h row
+known_octets o r f h row height chains = ap (λ (x : Option ℕ). octets_of x r f) height ∙ ap (λ (x : Option OtsRow). octets_of (Some h) x f) chains
+
+pub signatures_are_sized : SignaturesAreSized
+unfolding hss_signature
+signatures_are_sized s q text h row height chains =
+    ap (λ (l : List ℕ). length l) (known_octets (tree_height s.tree) (ots_row s.ots) (λ h row. to_be_bytes w32 0 ++ tree_signature h row s q text) h row height chains)
+    ∙ length-signature h row s q text

@@ -1,5 +1,5 @@
 -- Keys of one level (RFC 8554, 6.1 and 6.2).
-use Rattle.std.specs.Prelude.{ℕ, ◌≡◌, ◌^◌, ◌<◌, List, [], ◌++◌, length, Option, None, Some, IsSome}
+use Rattle.std.specs.Prelude.{ℕ, ◌≡◌, ◌+◌, ◌*◌, ◌^◌, ◌<◌, List, [], ◌++◌, length, Option, None, Some, IsSome}
 use Rattle.std.specs.Int.{w32, to_be_bytes}
 use Rattle.lms_params.specs.Parameters.{OtsRow, ots_row, tree_height}
 use Rattle.lms_tree.specs.Keys.{Secret, public_key, tree_signature}
@@ -38,3 +38,9 @@ pub record IsSized (s : Secret) : Type 0 where
 abbrev pub OneLevelVerifies : Type 0
 OneLevelVerifies = (secret : Secret) (leaf : ℕ) (text : List ℕ) → IsSized secret → IsSome (ots_row secret.ots) → leaf < leaf_count secret.tree
     → HssOk (hss_key secret) text (hss_signature secret leaf text)
+
+-- each signature of a key of one level has 48 octets, 32 for each chain of its one-time key and 32 for each level of its tree
+-- (RFC 8554, 4.5, 5.4 and 6.2)
+abbrev pub SignaturesAreSized : Type 0
+SignaturesAreSized = (secret : Secret) (leaf : ℕ) (text : List ℕ) (h : ℕ) (row : OtsRow) → tree_height secret.tree ≡ Some h → ots_row secret.ots ≡ Some row
+    → length (hss_signature secret leaf text) ≡ 48 + 32 * row.p + 32 * h

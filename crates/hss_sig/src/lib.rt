@@ -3,7 +3,7 @@
 
 pub use forms::{BadKey, BadSig, HssKey, HssSig, read_key, read_sig, valid_signatures_are_read};
 pub use levels::hss_ok;
-pub use one_level::{OneLevel, one_level_verifies};
+pub use one_level::{OneLevel, one_level_verifies, signatures_are_sized};
 pub use signer::LeafSigner;
 
 mod forms;

@@ -3,11 +3,11 @@
 ghost use Rattle.std.specs.Prelude.{◌≡◌, ◌^◌, ◌<◌, ◌⊎◌, ◌↔◌, None, Some, IfOk, IfSome};
 ghost use Rattle.lms_params.specs.Parameters.{ots_row, tree_height};
 ghost use Rattle.hss_sig.specs.Hss.{HssOk};
-ghost use Rattle.hss_sig.specs.OneLevel.{IsSized, OneLevelVerifies, hss_key, hss_signature, leaf_count};
+ghost use Rattle.hss_sig.specs.OneLevel.{IsSized, OneLevelVerifies, SignaturesAreSized, hss_key, hss_signature, leaf_count};
 
 use crate::signer::LeafSigner;
 use crate::sizes::leaves_under;
-use cmp_ports::Octets;
+use cmp_values::Octets;
 use lms_tree::{GrowFault, Set, TreeKey};
 use std::alloc::{AllocError, Global};
 use std::marker::Model;
@@ -100,4 +100,9 @@ impl LeafSigner for OneLevel {
 /// leaf and text.
 pub fn one_level_verifies()
     ensures { OneLevelVerifies }
+{}
+
+/// Each signature of a key of one level has the size that its sets give.
+pub fn signatures_are_sized()
+    ensures { SignaturesAreSized }
 {}

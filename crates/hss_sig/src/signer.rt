@@ -3,7 +3,7 @@
 ghost use Rattle.std.specs.Prelude.{◌≡◌, ◌<◌, IfOk};
 ghost use Rattle.hss_sig.specs.Hss.{HssOk};
 
-use cmp_ports::Octets;
+use cmp_values::Octets;
 use std::alloc::AllocError;
 
 /// A private key whose leaves sign each at most one text (RFC 8554, 9.2). It keeps no count of

@@ -6,7 +6,7 @@ use crate::{
     BadSig, LeafSigner, OneLevel, hss_ok, one_level_verifies, read_key, read_sig,
     valid_signatures_are_read,
 };
-use cmp_ports::Octets;
+use cmp_values::Octets;
 use lms_tree::Set;
 use sha2::{Digest, Sha256};
 use std::alloc::{AllocError, Global};

@@ -11,7 +11,7 @@ use crate::all::{ends, secrets};
 use crate::chain::secret_chain;
 use crate::key::{KeyPart, hash_of_ends};
 use crate::message::opened;
-use cmp_ports::Octets;
+use cmp_values::Octets;
 use lms_params::{Ots, coef, with_checksum, with_ots};
 use sha2::Digest;
 use std::alloc::AllocError;

@@ -6,7 +6,7 @@ use crate::chain::{chain, secret_chain};
 use crate::{
     KeyPart, SignFault, candidate, public_hash, public_hashes_in, sign_ots, signature_leads_to_key,
 };
-use cmp_ports::Octets;
+use cmp_values::Octets;
 use lms_params::with_ots;
 use sha2::{Digest, Sha256};
 use std::test::Fail;

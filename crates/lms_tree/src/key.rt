@@ -7,7 +7,7 @@ ghost use Rattle.lms_params.specs.Parameters.{ots_row, tree_height};
 use crate::nodes::nodes_with;
 use crate::public::public_octets;
 use crate::sign::sign_with;
-use cmp_ports::Octets;
+use cmp_values::Octets;
 use lm_ots::KeyPart;
 use lms_params::with_tree;
 use std::alloc::{AllocError, Global};

@@ -4,7 +4,7 @@ ghost use Rattle.std.specs.Prelude.{◌≡◌, ℕ, List, ◌+◌, ◌*◌, ◌^
 ghost use Rattle.lms_tree.specs.Nodes.{AreNodes, climb, path, sibling};
 
 use crate::hash::parent_of;
-use cmp_ports::Octets;
+use cmp_values::Octets;
 use lms_params::Tree;
 use std::alloc::AllocError;
 

@@ -6,7 +6,7 @@ ghost use Rattle.lms_params.specs.Parameters.{ots_row, tree_height};
 ghost use Rattle.lms_tree.specs.Keys.{IsGrown, IsSignature};
 
 use crate::path::write_path;
-use cmp_ports::Octets;
+use cmp_values::Octets;
 use lm_ots::{KeyPart, sign_ots_in};
 use lms_params::{Ots, Tree, with_ots};
 use std::alloc::{AllocError, Global};

@@ -8,6 +8,10 @@ use std::fmt;
 pub struct BadAlg;
 
 impl fmt::Display for BadAlg {
+    ghost use Rattle.std.specs.Prelude.{Some, codes};
+
+    ghost output = { λ _. Some (codes "the algorithm is not PBMAC1 with parameters that are accepted") };
+
     fn fmt<W: fmt::Write>(&self, f: &mut fmt::Formatter<W>) -> fmt::Result {
         f.write_str("the algorithm is not PBMAC1 with parameters that are accepted")
     }

@@ -8,7 +8,7 @@ ghost use Rattle.pbmac.specs.Params.{is_blank, is_hmac_sha256, rounds_of, key_le
 use crate::fault::BadAlg;
 use asn_fields::{field, optional, sole};
 use asn_types::{AlgorithmId, HMAC_SHA256, PBKDF2, PBMAC1, read_alg_content};
-use cmp_ports::Short;
+use cmp_values::Short;
 use der_base::integer;
 
 /// What PBKDF2 takes besides the secret: the salt, of 8 to 64 octets, and how many rounds, 1 to 200,000.
