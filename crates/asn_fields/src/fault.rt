@@ -10,6 +10,10 @@ use std::fmt;
 pub struct BadForm;
 
 impl fmt::Display for BadForm {
+    ghost use Rattle.std.specs.Prelude.{Some, codes};
+
+    ghost output = { λ _. Some (codes "the octets are not in the form of the type") };
+
     fn fmt<W: fmt::Write>(&self, f: &mut fmt::Formatter<W>) -> fmt::Result {
         f.write_str("the octets are not in the form of the type")
     }

@@ -1,5 +1,6 @@
 -- Fields that must be there and values that stand alone are read exactly where they are spelled.
 use Rattle.std.proofs.Common.{◌≡◌, ◌≢◌, ℕ, ◌%◌, ◌^◌, ◌<◌, ◌++◌, Bool, true, cond, IsTrue, List, length, Option, Some, None, Ok, append-nil, refl, sym, ap, subst, ◌∙◌, arith}
+use Rattle.std.proofs.lemmas.List.{length-append}
 use Rattle.der_base.specs.Element.{element, IsElement}
 use Rattle.der_base.specs.Reading.{Part, part, element_at}
 use Rattle.der_base.proofs.ElementLemmas.{IsTaken, element_takes, element_reads}
@@ -8,34 +9,22 @@ use Rattle.asn_fields.specs.Forms.{IsRead, IsFront}
 use Rattle.asn_fields.proofs.FieldLemmas.{IsTagged, bound, passed, some_same, field_takes, field_again, sole_takes, sole_reads}
 use Rattle.asn_types.specs.Name.{is_name}
 use Rattle.asn_types.specs.General.{is_general}
-use Rattle.asn_types.specs.Template.{IsWholeName, IsAnything, Passes, same, tested_at, anything_at}
+use Rattle.asn_types.specs.Template.{IsWholeName, same}
 use Rattle.asn_types.proofs.GeneralLemmas.{general_test}
+use Rattle.asn_types.proofs.LengthLemmas.{length_element_lt}
 use Rattle.asn_types.proofs.ValueLemmas.{ok_is}
+pub use Rattle.asn_types.proofs.TemplateLemmas.{tested_is_read, anything_is_read, empty_of, field_not, field_last}
 use Rattle.asn_parts.specs.Parts.{tagged, FitsTagged, IsWholeGeneral, whole_of, required_with, sole_with, name_front_at, general_front_at}
 
--- a content that passes a test
-tested_takes : (test : List ℕ → Bool) (bytes x : List ℕ) → tested_at test bytes ≡ Some x → Passes test x × (bytes ≡ same x)
-unfolding tested_at
-tested_takes test bytes x e =
-    passed (Passes test x × (bytes ≡ same x)) (test bytes) bytes x e (λ t k. (subst (Passes test) k t, k))
+-- the parts of octets whose length fits
+pub back_fits : (n : ℕ) (a b : List ℕ) → length (a ++ b) < n → length b < n
+back_fits n a b h = omega (arith, length-append a b, h)
 
-tested_again : (test : List ℕ → Bool) (x : List ℕ) → Passes test x → tested_at test (same x) ≡ Some x
-unfolding tested_at
-tested_again test x h = rw h refl
+pub front_fits : (n : ℕ) (a b : List ℕ) → length (a ++ b) < n → length a < n
+front_fits n a b h = omega (arith, length-append a b, h)
 
-pub tested_is_read : (test : List ℕ → Bool) → IsRead (tested_at test) same (Passes test)
-tested_is_read test = record { takes = tested_takes test; again = tested_again test }
-
-anything_takes : (bytes x : List ℕ) → anything_at bytes ≡ Some x → IsAnything x × (bytes ≡ same x)
-unfolding anything_at
-anything_takes bytes x e = (tt, some_same bytes x e)
-
-anything_again : (x : List ℕ) → IsAnything x → anything_at (same x) ≡ Some x
-unfolding anything_at
-anything_again x h = refl
-
-pub anything_is_read : IsRead anything_at same IsAnything
-anything_is_read = record { takes = anything_takes; again = anything_again }
+pub inside_fits : (n tag : ℕ) (a : List ℕ) → length (element tag a) < n → length a < n
+inside_fits n tag a h = omega (arith, length_element_lt tag a, h)
 
 -- a field that must be there
 required_by : {X : Type 0} (tag : ℕ) (spelling : X → List ℕ) (Fits : X → Type 0) → (bytes : List ℕ) (p : Part) (more : List ℕ) (y x : X) (rest : List ℕ) → IsTagged tag bytes p more → Fits y → p.content ≡ spelling y → ◌≡◌ {A = X × List ℕ} (y, more) (x, rest) → FitsTagged spelling Fits x × (bytes ≡ tagged tag spelling x ++ rest)

@@ -8,7 +8,7 @@ ghost use Rattle.asn_types.specs.Template.{tested_at, name_of};
 ghost use Rattle.asn_parts.specs.Parts.{required_with, name_front_at, general_front_at, general_part};
 
 use asn_fields::{BadForm, field};
-use asn_types::{AlgorithmId, GeneralName, Name, read_alg, read_general, read_name};
+use asn_types::{AlgorithmId, GeneralName, Name, read_alg_content, read_general, read_name};
 use der_base::{Element, integer, read_element};
 
 /// The content of an INTEGER, which the octets are.
@@ -33,24 +33,13 @@ pub fn integer_field(bytes: &[u8]) -> Result<(&[u8], &[u8]), BadForm>
     Ok((octets, rest))
 }
 
-/// Reads an AlgorithmIdentifier, by what stands in its SEQUENCE.
-fn algorithm_inside(content: &[u8]) -> Result<AlgorithmId<'_>, BadForm>
-    ensures { Gives algorithm_of result (algorithm_at content.now) }
-{
-    read_alg(&Element {
-        tag: 0x30,
-        content,
-        whole: content,
-    })
-}
-
 /// Reads an AlgorithmIdentifier from the front, and the octets behind it (RFC 5280, 4.1.1.2). `BadForm` where none stands
 /// there.
 pub fn algorithm_field(bytes: &[u8]) -> Result<(AlgorithmId<'_>, &[u8]), BadForm>
     ensures { Gives {Y = Algorithm × List ℕ} (λ r. (algorithm_of r.0, r.1.now)) result (required_with algorithm_at 0x30 bytes.now) }
 {
     let (element, rest) = field(0x30, bytes)?;
-    let algorithm = algorithm_inside(element.content)?;
+    let algorithm = read_alg_content(element.content)?;
     Ok((algorithm, rest))
 }
 

@@ -3,7 +3,7 @@ ghost use Rattle.std.specs.Prelude.{◌≡◌, ℕ, ◌<◌, ◌≤◌, length, 
 ghost use Rattle.der_base.specs.Values.{is_integer};
 ghost use Rattle.asn_parts.specs.Number.{octets_of, width_of, number_octets};
 
-use cmp_ports::Short;
+use cmp_values::Short;
 
 /// How many octets the INTEGER of a number has.
 fn width(n: u64) -> usize

@@ -19,7 +19,7 @@ use Rattle.asn_types.proofs.NameLemmas.{false_true}
 use Rattle.asn_types.proofs.OptionalLemmas.{IsNotAt, optional_there, optional_not}
 
 -- a list of no length is empty
-empty_of : (l : List ℕ) → eqb (length l) 0 ≡ true → l ≡ []
+pub empty_of : (l : List ℕ) → eqb (length l) 0 ≡ true → l ≡ []
 empty_of [] h = refl
 empty_of (x ∷ l) h = absurd (omega (arith, eqb-true (length (x ∷ l)) 0 h))
 
@@ -33,7 +33,7 @@ tested_again : (test : List ℕ → Bool) (x : List ℕ) → Passes test x → t
 unfolding tested_at
 tested_again test x h = rw h refl
 
-tested_is_read : (test : List ℕ → Bool) → IsRead (tested_at test) same (Passes test)
+pub tested_is_read : (test : List ℕ → Bool) → IsRead (tested_at test) same (Passes test)
 tested_is_read test = record { takes = tested_takes test; again = tested_again test }
 
 anything_takes : (bytes x : List ℕ) → anything_at bytes ≡ Some x → IsAnything x × (bytes ≡ same x)
@@ -44,7 +44,7 @@ anything_again : (x : List ℕ) → IsAnything x → anything_at (same x) ≡ So
 unfolding anything_at
 anything_again x h = refl
 
-anything_is_read : IsRead anything_at same IsAnything
+pub anything_is_read : IsRead anything_at same IsAnything
 anything_is_read = record { takes = anything_takes; again = anything_again }
 
 name_by : (bytes x : List ℕ) (p : Part) → IsTagged 0x30 bytes p [] → is_name p ≡ true → p.whole ≡ x → IsWholeName x × (bytes ≡ same x)
@@ -70,8 +70,8 @@ name_again x h = rw (sole_reads 0x30 x h.content h.alone, h.is_name) (ap (λ (l 
 name_is_read : IsRead name_at same IsWholeName
 name_is_read = record { takes = name_takes; again = name_again }
 
--- a field is read where another tag follows
-field_not : {X : Type 0} (inner : List ℕ → Option X) (tag : ℕ) (spelling : X → List ℕ) (Fits : X → Type 0) → tag % 32 ≢ 31 → IsRead inner spelling Fits → (o : Option X) (rest : List ℕ) → FitsOptional spelling Fits o → IsNotAt tag rest → optional_with inner tag (optional_spelling tag spelling o ++ rest) ≡ Some (o, rest)
+-- a field that may be left out is read where another tag follows
+pub field_not : {X : Type 0} (inner : List ℕ → Option X) (tag : ℕ) (spelling : X → List ℕ) (Fits : X → Type 0) → tag % 32 ≢ 31 → IsRead inner spelling Fits → (o : Option X) (rest : List ℕ) → FitsOptional spelling Fits o → IsNotAt tag rest → optional_with inner tag (optional_spelling tag spelling o ++ rest) ≡ Some (o, rest)
 field_not inner tag spelling Fits low law None rest fits h = rw (optional_not tag rest h) refl
 field_not inner tag spelling Fits low law (Some x) rest fits h = rw (optional_there tag (spelling x) rest low fits.1, law.again x fits.0) refl
 
@@ -99,6 +99,11 @@ not_first tag tags first true e none h =
 not_at : (tag : ℕ) (tags bytes : List ℕ) → list_any (λ t. eqb t tag) tags ≡ false → Heads tags bytes → IsNotAt tag bytes
 not_at tag tags [] none h = tt
 not_at tag tags (first ∷ rest) none h = not_first tag tags first (eqb first tag) refl none h
+
+-- where nothing follows
+pub field_last : {X : Type 0} (inner : List ℕ → Option X) (tag : ℕ) (spelling : X → List ℕ) (Fits : X → Type 0) → tag % 32 ≢ 31 → IsRead inner spelling Fits → (o : Option X) → FitsOptional spelling Fits o → optional_with inner tag (optional_spelling tag spelling o) ≡ Some (o, [])
+field_last inner tag spelling Fits low law o fits =
+    ap (optional_with inner tag) (sym (append-nil (optional_spelling tag spelling o))) ∙ field_not inner tag spelling Fits low law o [] fits tt
 
 -- what follows each field
 abbrev after_subject_uid : TemplateForm → List ℕ
@@ -158,7 +163,7 @@ heads_last None = tt
 heads_last (Some x) = refl
 
 exts_again : (t : TemplateForm) → FitsOptional same (Passes is_extensions) t.exts → optional_with (tested_at is_extensions) 0xA9 (optional_spelling 0xA9 same t.exts) ≡ Some (t.exts, [])
-exts_again t h = ap (optional_with (tested_at is_extensions) 0xA9) (sym (append-nil (optional_spelling 0xA9 same t.exts))) ∙ field_not (tested_at is_extensions) 0xA9 same (Passes is_extensions) (omega arith) (tested_is_read is_extensions) t.exts [] h tt
+exts_again t h = field_last (tested_at is_extensions) 0xA9 same (Passes is_extensions) (omega arith) (tested_is_read is_extensions) t.exts h
 
 version_field : IsField (optional_with (tested_at is_integer) 0x80) 0x80 same (Passes is_integer)
 version_field = optional_field (tested_at is_integer) 0x80 same (Passes is_integer) (omega arith) (tested_is_read is_integer)

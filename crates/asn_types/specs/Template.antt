@@ -1,5 +1,5 @@
 -- Certificate templates (RFC 4211, 5), with implicit tags.
-use Rattle.std.specs.Prelude.{◌≡◌, ℕ, ◌++◌, ◌==◌, if◌then◌else◌, Bool, IsTrue, List, [], length, Option, Some, None, option_map}
+use Rattle.std.specs.Prelude.{◌≡◌, ℕ, ◌++◌, ◌==◌, if◌then◌else◌, Bool, IsTrue, List, [], ◌∷◌, length, Option, Some, None, option_map}
 use Rattle.std.specs.Option.{option_copied}
 use Rattle.der_base.specs.Element.{IsElement}
 use Rattle.der_base.specs.Reading.{Part, part}
@@ -10,6 +10,7 @@ use Rattle.asn_types.specs.Name.{IsName, is_name}
 use Rattle.asn_types.specs.Algorithm.{Algorithm, FitsAlgorithm, algorithm_content, algorithm_of, algorithm_at}
 use Rattle.asn_types.specs.Key.{Key, FitsKey, key_content, key_of, key_at}
 use Rattle.asn_types.specs.Extension.{is_extensions}
+use Rattle.der_base.specs.declared.bit_string.Bits.{Bits}
 use Rattle.asn_types.specs.declared.name.Name.{Name}
 use Rattle.asn_types.specs.declared.extension.Extensions.{Extensions}
 use Rattle.asn_types.specs.declared.template.Template.{Template}
@@ -72,6 +73,10 @@ pub record FitsTemplate (t : TemplateForm) : Type 0 where
 abbrev pub name_of : Name → List ℕ
 name_of n = n.whole.now
 
+-- the content of a BIT STRING: the count of the unused bits at its end, and the octets (X.690, 8.6.2)
+abbrev pub bits_content : Bits → List ℕ
+bits_content b = b.unused ∷ b.octets.now
+
 abbrev pub extensions_of : Extensions → List ℕ
 extensions_of x = x.content.now
 
@@ -84,8 +89,8 @@ template_of t = record {
   validity = option_copied t.validity;
   subject = option_map name_of t.subject;
   key = option_map key_of t.key;
-  issuer_uid = option_copied t.issuer_uid;
-  subject_uid = option_copied t.subject_uid;
+  issuer_uid = option_map bits_content t.issuer_uid;
+  subject_uid = option_map bits_content t.subject_uid;
   exts = option_map extensions_of t.exts;
 }
 

@@ -7,7 +7,7 @@ ghost use Rattle.asn_types.specs.Algorithm.{Algorithm, FitsAlgorithm, algorithm_
 
 use crate::parts::{any, oid_field};
 use asn_fields::BadForm;
-use cmp_ports::Octets;
+use cmp_values::Octets;
 use der_base::{Element, Writer};
 use std::alloc::{AllocError, Global};
 

@@ -5,7 +5,7 @@ ghost use Rattle.der_base.specs.Reading.{part};
 ghost use Rattle.asn_types.specs.Name.{IsName, common_name, common_name_content};
 
 use crate::oids::COMMON_NAME;
-use cmp_ports::Octets;
+use cmp_values::Octets;
 use der_base::Writer;
 use std::alloc::{AllocError, Global};
 

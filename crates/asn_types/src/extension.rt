@@ -10,7 +10,7 @@ ghost use Rattle.asn_types.specs.Extension.{ExtensionForm, FitsExtension, IsExte
 
 use crate::parts::oid_field;
 use asn_fields::{BadForm, optional, sole};
-use cmp_ports::Octets;
+use cmp_values::Octets;
 use der_base::{Element, Items, Writer, boolean};
 use std::alloc::{AllocError, Global};
 

@@ -6,7 +6,7 @@ ghost use Rattle.asn_types.specs.General.{IsGeneral, is_general_tag, is_general,
 
 use crate::name::is_name;
 use asn_fields::BadForm;
-use cmp_ports::Octets;
+use cmp_values::Octets;
 use der_base::{Element, Writer, whole};
 use std::alloc::{AllocError, Global};
 

@@ -7,6 +7,7 @@ mod common_name;
 mod extension;
 mod general;
 mod key_identifier;
+mod laws;
 mod name;
 mod oids;
 mod parts;
@@ -23,12 +24,13 @@ pub use extension::{
 };
 pub use general::{GeneralName, read_general, write_general};
 pub use key_identifier::key_id;
+pub use laws::oids_are_spelled;
 pub use name::{Name, read_name};
 pub use oids::{
     AUTHORITY_KEY_IDENTIFIER, BASIC_CONSTRAINTS, CA_CERTS, CERT_REQ_TEMPLATE, COMMON_NAME,
     CONFIRM_WAIT_TIME, EXTENSION_REQUEST, HMAC_SHA256, HSS_LMS, IMPLICIT_CONFIRM, KEY_USAGE,
     OLD_CERT_ID, ORIG_PKI_MESSAGE, PBKDF2, PBMAC1, REASON_CODE, SHA256, SUBJECT_ALT_NAME,
-    SUBJECT_KEY_IDENTIFIER, oids_are_spelled,
+    SUBJECT_KEY_IDENTIFIER,
 };
 pub use parts::{any, oid_field, plain_bits};
 pub use spki::{Spki, read_spki, write_spki};

@@ -2,13 +2,13 @@
 ghost use Rattle.std.specs.Prelude.{◌≡◌, ◌^◌, ◌<◌, length, IfOk, Some};
 ghost use Rattle.der_base.specs.Element.{IsElement};
 ghost use Rattle.asn_fields.specs.Fields.{Gives};
-ghost use Rattle.asn_types.specs.Key.{Key, FitsKey, key_content, key_at};
+ghost use Rattle.asn_types.specs.Key.{Key, FitsKey, spki_content, key_content, key_at};
 ghost use Rattle.asn_types.specs.Algorithm.{algorithm_of};
 
 use crate::algorithm::{AlgorithmId, put_algorithm, read_alg_content};
 use crate::parts::{plain_bits, put_plain_bits};
 use asn_fields::{BadForm, field, sole};
-use cmp_ports::Octets;
+use cmp_values::Octets;
 use der_base::Writer;
 use std::alloc::{AllocError, Global};
 
@@ -52,8 +52,8 @@ pub fn read_spki(content: &[u8]) -> Result<Spki<'_>, BadForm>
 /// memory runs out.
 #[tactic(auto, using(crate::proofs::LengthLemmas::lengths))]
 pub fn write_spki(alloc: Global, alg: &AlgorithmId, key: &[u8]) -> Result<Octets, AllocError>
-    requires { length (key_content (record { alg = algorithm_of alg.now; key = key.now })) < 2 ^ 32 }
-    ensures { IfOk result (λ octets. IsElement octets 0x30 (key_content (record { alg = algorithm_of alg.now; key = key.now }))) }
+    requires { length (spki_content (algorithm_of alg.now) key.now) < 2 ^ 32 }
+    ensures { IfOk result (λ octets. IsElement octets 0x30 (spki_content (algorithm_of alg.now) key.now)) }
 {
     let mut writer = Writer::new(alloc);
     put_algorithm(&mut writer, alg)?;

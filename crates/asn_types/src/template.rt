@@ -6,17 +6,17 @@ ghost use Rattle.asn_fields.specs.Fields.{Gives, optional_with};
 ghost use Rattle.asn_types.specs.Algorithm.{algorithm_of, algorithm_at};
 ghost use Rattle.asn_types.specs.Key.{key_of, key_at};
 ghost use Rattle.asn_types.specs.Extension.{is_extensions};
-ghost use Rattle.asn_types.specs.Template.{TemplateForm, FitsTemplate, template_content, tested_at, anything_at, name_at, template_at, name_of, extensions_of};
+ghost use Rattle.asn_types.specs.Template.{TemplateForm, FitsTemplate, template_content, tested_at, anything_at, name_at, template_at, bits_content, name_of, extensions_of};
 
 use crate::algorithm::{AlgorithmId, read_alg_content};
 use crate::extension::{Extensions, extensions_inside};
 use crate::name::{Name, is_name};
 use crate::spki::{Spki, key_inside};
 use asn_fields::{BadForm, optional, sole};
-use der_base::{Element, bits, integer};
+use der_base::{Bits, Element, bits, integer};
 
 /// A certificate template: what a requester asks for. Where a field stands there: the content of its element, of a name the
-/// whole element, and of the unique identifiers the content of their BIT STRINGs, the count of unused bits included.
+/// whole element, and of a unique identifier its octets and the count of unused bits apart.
 #[derive(Clone, Copy, Debug, PartialEq, Eq)]
 pub struct Template<'a> {
     pub version: Option<&'a [u8]>,
@@ -26,8 +26,8 @@ pub struct Template<'a> {
     pub validity: Option<&'a [u8]>,
     pub subject: Option<Name<'a>>,
     pub key: Option<Spki<'a>>,
-    pub issuer_uid: Option<&'a [u8]>,
-    pub subject_uid: Option<&'a [u8]>,
+    pub issuer_uid: Option<Bits<'a>>,
+    pub subject_uid: Option<Bits<'a>>,
     pub exts: Option<Extensions<'a>>,
 }
 
@@ -66,21 +66,21 @@ fn integer_field(tag: u8, bytes: &[u8]) -> Result<(Option<&[u8]>, &[u8]), BadFor
     field_inside!(tag, bytes, integer_inside)
 }
 
-/// The content of a BIT STRING.
+/// A BIT STRING, by its content.
 #[tactic(auto, unfolding(crate::specs::Template::tested_at, der_base::specs::Values::bits_at))]
-fn bits_inside(content: &[u8]) -> Result<&[u8], BadForm>
-    ensures { Gives (λ octets. octets.now) result (tested_at is_bits content.now) }
+fn bits_inside(content: &[u8]) -> Result<Bits<'_>, BadForm>
+    ensures { Gives bits_content result (tested_at is_bits content.now) }
 {
-    bits(&Element {
+    let string = bits(&Element {
         tag: 0x03,
         content,
         whole: content,
     })?;
-    Ok(content)
+    Ok(string)
 }
 
-fn bits_field(tag: u8, bytes: &[u8]) -> Result<(Option<&[u8]>, &[u8]), BadForm>
-    ensures { Gives (λ r. (option_copied r.0, r.1.now)) result (optional_with (tested_at is_bits) tag bytes.now) }
+fn bits_field(tag: u8, bytes: &[u8]) -> Result<(Option<Bits<'_>>, &[u8]), BadForm>
+    ensures { Gives (λ r. (option_map bits_content r.0, r.1.now)) result (optional_with (tested_at is_bits) tag bytes.now) }
 {
     field_inside!(tag, bytes, bits_inside)
 }

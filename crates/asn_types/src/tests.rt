@@ -5,8 +5,8 @@ use crate::{
     read_name, read_spki, read_template, read_time, utc, write_alg, write_cn, write_extension,
     write_extensions, write_general, write_spki,
 };
-use cmp_ports::{Octets, Text};
-use der_base::{DerFault, Element, whole};
+use cmp_values::{Octets, Text};
+use der_base::{Bits, DerFault, Element, whole};
 use std::alloc::{AllocError, Global};
 
 /// The name of the common name `Fleet CA`.
@@ -72,8 +72,14 @@ const ASKED: Template = Template {
         key: KEY,
         content: KEY_CONTENT,
     }),
-    issuer_uid: Some(b"\x00\x01\x02\x03"),
-    subject_uid: Some(b"\x00\x04\x05\x06"),
+    issuer_uid: Some(Bits {
+        unused: 0,
+        octets: b"\x01\x02\x03",
+    }),
+    subject_uid: Some(Bits {
+        unused: 0,
+        octets: b"\x04\x05\x06",
+    }),
     exts: Some(Extensions { content: ROW }),
 };
 

@@ -5,7 +5,7 @@ use Rattle.jiff_core.specs.Calendar.{IsCivilDate, day_count, days_of_years, days
 use Rattle.jiff_core.proofs.SignedLemmas.{signed_arith}
 use Rattle.jiff_core.proofs.CalendarLemmas.{days_from_civil-day_count, day_count-lt_year, day_count-epoch, days_in_month_bounds}
 use Rattle.cmp_time.specs.declared.moment.Moment.{Moment}
-use Rattle.cmp_time.specs.Time.{IsMoment, IsClockLike, IsGeneralized, IsUtc, text_in_year, generalized_text, utc_text}
+use Rattle.cmp_time.specs.Time.{IsMoment, IsClockLike, IsGeneralized, IsUtc, last_of, text_in_year, generalized_text, utc_text}
 
 -- two digits stand for one number
 two_digits_injective : (a b : ℕ) → a < 100 → b < 100 → 48 + a / 10 ≡ 48 + b / 10 → 48 + a % 10 ≡ 48 + b % 10 → a ≡ b
@@ -54,6 +54,33 @@ days_before_2050 = refl
 -- the last day of 2049
 last_is_date : IsCivilDate (pos 2049) 12 31
 last_is_date = ((omega (arith, signed_arith), omega (arith, signed_arith)), (omega arith, omega arith), (omega arith, omega arith))
+
+-- the last seconds of 2049 and of 9999
+pub last_utc : IsMoment 2_524_607_999 (last_of 2049)
+last_utc = record {
+  days = 29_219;
+  real_date = last_is_date;
+  real_hour = omega arith;
+  real_minute = omega arith;
+  real_second = omega arith;
+  days_since = omega (arith, signed_arith, days_from_civil-day_count (pos 2049) 12 31, days_before_2050);
+  seconds_since = refl;
+}
+
+days_before_10000 : day_count (pos 9999) 12 31 ≡ 7_304_849
+unfolding day_count days_of_years days_of_months
+days_before_10000 = refl
+
+pub last_generalized : IsMoment 253_402_300_799 (last_of 9999)
+last_generalized = record {
+  days = 2_932_896;
+  real_date = ((omega (arith, signed_arith), omega (arith, signed_arith)), (omega arith, omega arith), (omega arith, omega arith));
+  real_hour = omega arith;
+  real_minute = omega arith;
+  real_second = omega arith;
+  days_since = omega (arith, signed_arith, days_from_civil-day_count (pos 9999) 12 31, days_before_10000);
+  seconds_since = refl;
+}
 
 -- moments are from 1970 on
 pub year_from : (t : ℕ) (m : Moment) → IsMoment t m → 1970 ≤ m.year

@@ -16,6 +16,10 @@ pub record IsMoment (t : ℕ) (m : Moment) : Type 0 where
   pub days_since : days_from_civil (pos m.year) m.month m.day ≡ pos days
   pub seconds_since : t ≡ days * 86_400 + (m.hour * 3600 + m.minute * 60 + m.second)
 
+-- the last second of a year
+abbrev pub last_of : ℕ → Moment
+last_of year = record { year = year; month = 12; day = 31; hour = 23; minute = 59; second = 59 }
+
 -- the text behind the year: MMDDhhmmssZ
 abbrev pub text_in_year : Moment → List ℕ
 text_in_year m = two_digits m.month ++ (two_digits m.day ++ (two_digits m.hour ++ (two_digits m.minute ++ (two_digits m.second ++ 90 ∷ []))))

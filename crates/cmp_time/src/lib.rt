@@ -7,7 +7,9 @@ mod moment;
 mod text;
 
 pub use moment::Moment;
-pub use text::{LAST_GENERALIZED, LAST_UTC, generalized, read_generalized, read_utc, utc};
+pub use text::{
+    LAST_GENERALIZED, LAST_UTC, generalized, limits_are_last, read_generalized, read_utc, utc,
+};
 
 #[cfg(test)]
 mod tests;

@@ -1,9 +1,11 @@
 //! A second, as a date and a time of day.
-ghost use Rattle.std.specs.Prelude.{◌≡◌, ℕ, ◌+◌, ◌*◌, ◌≤◌, ◌<◌, ◌≤ℤ◌, pos, IfSome, IfNone};
+ghost use Rattle.std.specs.Prelude.{◌≡◌, ℕ, ◌+◌, ◌*◌, ◌≤◌, ◌<◌, ◌≤ℤ◌, ◌*ℤ◌, pos, IfSome, IfNone};
 ghost use Rattle.jiff_core.specs.Calendar.{IsCivilDate};
+ghost use Rattle.jiff.specs.Words.{epoch_day, IsEpochDay};
 ghost use Rattle.cmp_time.specs.Time.{IsMoment};
 
-use jiff_core::civil::Date;
+use jiff::ToSpan;
+use jiff::civil::{Date, date};
 
 /// A date of the Gregorian calendar and a time of day in UTC, to the second.
 #[derive(Clone, Copy, Debug, PartialEq, Eq)]
@@ -18,6 +20,39 @@ pub struct Moment {
 
 /// Seconds of a day.
 const DAY: u64 = 86_400;
+
+/// The first day of 1970, from which days are counted.
+fn epoch() -> Date
+    ensures { epoch_day result ≡ pos 0 }
+{
+    date(1970, 1, 1)
+}
+
+/// The days from the first of 1970 to a date, less than none where it is before.
+fn days_to(date: Date) -> i64
+    ensures { result ≡ epoch_day date }
+{
+    date.duration_since(epoch()).as_secs() / 86_400
+}
+
+/// The number of a date's day, of those that the calendar has.
+fn day_number(date: Date) -> i64
+    ensures value { result ≡ epoch_day date }
+    ensures bound { IsEpochDay result }
+{
+    days_to(date)
+}
+
+/// The date so many days after the first of 1970.
+fn day_after(days: u64) -> Date
+    requires { days ≤ 2_932_896 }
+    ensures { epoch_day result ≡ pos days }
+{
+    let Ok(date) = epoch().checked_add((days as i64).days()) else {
+        unreachable!()
+    };
+    date
+}
 
 /// The date, where the calendar has it.
 fn date_of(m: &Moment) -> Option<Date>
@@ -36,7 +71,7 @@ pub(crate) fn seconds_of(m: &Moment) -> Option<u64>
     ensures found { IfSome result (λ t. IsMoment t m.now) }
     ensures only { (t : ℕ) → IsMoment t m.now → result ≡ Some t }
 {
-    let days = date_of(m)?.to_unix_epoch_day();
+    let days = day_number(date_of(m)?);
     if days < 0 || m.hour > 23 || m.minute > 59 || m.second > 59 {
         return None;
     }
@@ -50,13 +85,11 @@ pub(crate) fn moment_of(t: u64) -> Moment
     ensures { IsMoment t result }
 {
     let in_day = t % DAY;
-    let Ok(date) = Date::from_unix_epoch_day((t / DAY) as i64) else {
-        unreachable!()
-    };
+    let date = day_after(t / DAY);
     Moment {
-        year: date.year.unsigned_abs(),
-        month: date.month,
-        day: date.day,
+        year: date.year().unsigned_abs(),
+        month: date.month() as u8,
+        day: date.day() as u8,
         hour: (in_day / 3600) as u8,
         minute: (in_day / 60 % 60) as u8,
         second: (in_day % 60) as u8,

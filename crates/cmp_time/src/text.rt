@@ -1,11 +1,11 @@
 //! The texts of UTCTime and GeneralizedTime.
 ghost use Rattle.std.specs.Prelude.{◌≡◌, ℕ, ◌+◌, ◌*◌, ◌/◌, ◌%◌, ◌<◌, ◌≤◌, ◌++◌, IfOk, IfSome, IfNone};
-ghost use Rattle.cmp_time.specs.Time.{IsMoment, IsGeneralized, IsUtc, IsClockLike, text_in_year, utc_text, generalized_text};
+ghost use Rattle.cmp_time.specs.Time.{IsMoment, IsGeneralized, IsUtc, IsClockLike, text_in_year, utc_text, generalized_text, last_of};
 
 use crate::Moment;
 use crate::digits::{read_two, two_digits};
 use crate::moment::{moment_of, seconds_of};
-use cmp_ports::Text;
+use cmp_values::Text;
 use std::alloc::{AllocError, Global};
 
 /// The last second that a GeneralizedTime has: 9999-12-31T23:59:59.
@@ -13,6 +13,12 @@ pub const LAST_GENERALIZED: u64 = 253_402_300_799;
 
 /// The last second that a UTCTime has: 2049-12-31T23:59:59.
 pub const LAST_UTC: u64 = 2_524_607_999;
+
+/// Both limits are the last seconds of the last years that the texts have: a UTCTime has those before 2050 (RFC 5280, 4.1.2.5.1).
+pub fn limits_are_last()
+    ensures utc { IsMoment LAST_UTC (last_of 2049) }
+    ensures generalized { IsMoment LAST_GENERALIZED (last_of 9999) }
+{}
 
 /// The eleven octets behind a year: MMDDhhmmssZ.
 fn after_year(m: &Moment) -> [u8; 11]
@@ -47,7 +53,7 @@ fn read_after_year(year: u16, text: &[u8]) -> Option<Moment>
 
 /// The GeneralizedTime of a second: YYYYMMDDhhmmssZ. `AllocError` where memory runs out.
 pub fn generalized(alloc: Global, t: u64) -> Result<Text, AllocError>
-    requires { t ≤ 253_402_300_799 }
+    requires { t ≤ LAST_GENERALIZED }
     ensures { IfOk result (λ text. IsGeneralized text t) }
 {
     let m = moment_of(t);
@@ -59,7 +65,7 @@ pub fn generalized(alloc: Global, t: u64) -> Result<Text, AllocError>
 
 /// The UTCTime of a second: YYMMDDhhmmssZ. `AllocError` where memory runs out.
 pub fn utc(alloc: Global, t: u64) -> Result<Text, AllocError>
-    requires { t ≤ 2_524_607_999 }
+    requires { t ≤ LAST_UTC }
     ensures { IfOk result (λ text. IsUtc text t) }
 {
     let m = moment_of(t);

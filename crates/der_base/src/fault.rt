@@ -16,6 +16,11 @@ pub enum DerFault {
 }
 
 impl fmt::Display for DerFault {
+    ghost use Rattle.std.specs.Prelude.{Some};
+    ghost use Rattle.der_base.specs.Fault.{fault_text};
+
+    ghost output = { λ fault. Some (fault_text fault) };
+
     fn fmt<W: fmt::Write>(&self, f: &mut fmt::Formatter<W>) -> fmt::Result {
         match self {
             DerFault::Short => f.write_str("the octets end before the element does"),

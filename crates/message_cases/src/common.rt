@@ -1,5 +1,5 @@
 //! What the tests share: octets that were written, and octets that are cut.
-use cmp_ports::Octets;
+use cmp_values::Octets;
 use std::alloc::AllocError;
 
 /// Whether these octets were written.

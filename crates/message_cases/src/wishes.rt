@@ -1,8 +1,8 @@
 //! Wishes, written as others write them.
 use crate::common::is;
 use crate::request_vectors::{ASKED, EXTENSIONS, ISSUER, SPKI, SUBJECT, UPDATE, VOUCHED};
-use cmp_ports::Octets;
-use req_forms::{CrmfWish, Proof, write_crmf, write_p10, write_p10_info};
+use cmp_values::Octets;
+use req_forms::{CrmfWish, Proof, write_crmf, write_p10, write_p10_info, write_request};
 use std::alloc::{AllocError, Global};
 
 /// A wish of that subject and key, and of these extensions.
@@ -52,6 +52,29 @@ fn are_messages(alloc: Global, wish: Result<CrmfWish, AllocError>, octets: &[u8]
         Ok(wish) => are_messages_of(alloc, &wish, octets),
         Err(_) => false,
     }
+}
+
+/// Whether the request of a wish is written as these octets.
+#[tactic(auto, using(req_forms::proofs::SizeLemmas::whole_request_size))]
+fn is_certificate_request(alloc: Global, wish: &CrmfWish, octets: &[u8]) -> bool {
+    wish.subject.len() <= 999
+        && wish.spki.len() <= 999
+        && wish.exts.len() <= 999
+        && wish.issuer.len() <= 999
+        && is(write_request(alloc, wish), octets)
+}
+
+/// Whether the request of the signed wish is written as these octets.
+fn is_signed_request(alloc: Global, octets: &[u8]) -> bool {
+    match signed_wish(alloc) {
+        Ok(wish) => is_certificate_request(alloc, &wish, octets),
+        Err(_) => false,
+    }
+}
+
+#[test]
+fn writes_a_request_as_others_do(rt: HostRuntime) {
+    assert!(rt; is_signed_request(rt.alloc(), &UPDATE[8..271]));
 }
 
 /// Whether a wish is written as this info.

@@ -1,5 +1,5 @@
 //! What the tests share: octets that were written, elements that are cut, and statuses.
-use cmp_ports::Octets;
+use cmp_values::Octets;
 use der_base::{Bits, Element};
 use pki_parts::StatusInfo;
 use std::alloc::AllocError;

@@ -1,6 +1,6 @@
 //! Error messages, by Bouncy Castle 1.72 (tests/vectors/java/ReplyVectors.java), and their neighbours by hand.
 use crate::common::{cut, is};
-use cmp_ports::FailInfo;
+use cmp_values::FailInfo;
 use der_base::{Bits, whole};
 use pki_parts::{BadForm, ErrorMsg, StatusInfo, read_error, write_error, write_status};
 

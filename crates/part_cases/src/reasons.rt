@@ -1,5 +1,5 @@
 //! Reasons of refusal, by Bouncy Castle 1.72 (tests/vectors/java/ReplyVectors.java).
-use cmp_ports::FailInfo;
+use cmp_values::FailInfo;
 use der_base::{bits, whole};
 use pki_parts::{first_reason, write_status};
 use std::alloc::Global;

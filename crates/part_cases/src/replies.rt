@@ -62,6 +62,14 @@ const NO_REPLY: &[(&str, &[u8])] = &[
         b"\x30\x08\xa1\x04\x30\x02\x04\x00\x30\x00",
     ),
     (
+        "caPubs of a certificate whose content is cut",
+        b"\x30\x09\xa1\x05\x30\x03\x30\x01\x00\x30\x00",
+    ),
+    (
+        "a certificate whose content is cut",
+        b"\x30\x13\x30\x11\x30\x0f\x02\x01\x00\x30\x03\x02\x01\x00\x30\x05\xa0\x03\x30\x01\x00",
+    ),
+    (
         "caPubs behind the responses",
         b"\x30\x06\x30\x00\xa1\x02\x30\x00",
     ),

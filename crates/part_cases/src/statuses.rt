@@ -2,7 +2,7 @@
 use crate::common::{
     ACCEPTED, ACCEPTED_OCTETS, DENIED, DENIED_OCTETS, NOT_AUTHORIZED, WAITING_OCTETS, cut, is,
 };
-use cmp_ports::FailInfo;
+use cmp_values::FailInfo;
 use der_base::{Bits, whole};
 use pki_parts::{BadForm, StatusInfo, first_reason, read_status, write_status};
 

@@ -184,3 +184,30 @@ size_of p octets is = omega (arith, ap (λ (l : List ℕ). length l) is.spelled,
 pub header_size : {E : Type 0} (r : Result (List ℕ) E) (p : HeaderPlan) → IfOk r (IsPlanned p) → IfOk r (λ octets. length octets ≤ plan_size p + 256)
 header_size (Ok octets) p is = size_of p octets is
 header_size (Err e) p is = tt
+
+-- and how long it is at least
+explicit_least : (tag inner : ℕ) (o : Option (List ℕ)) → field_size o ≤ length (explicit_octets tag inner o)
+explicit_least tag inner None = omega arith
+explicit_least tag inner (Some x) = omega (arith, length_element_lt tag (element inner x), length_element_lt inner x)
+
+plain_least : (tag : ℕ) (o : Option (List ℕ)) → field_size o ≤ length (optional_spelling tag same o)
+plain_least tag None = omega arith
+plain_least tag (Some x) = omega (arith, length_element_lt tag x)
+
+plan_least : (p : HeaderPlan) (text : Option (List ℕ)) → plan_size p ≤ length (planned_content p text)
+plan_least p text =
+    omega (
+      arith,
+      row_length (element 0x02 (number_octets p.pvno)) p.sender p.recipient (explicit_octets 0xA0 0x18 text) (optional_spelling 0xA1 same p.alg) (explicit_octets 0xA2 0x04 p.sender_kid) (explicit_octets 0xA3 0x04 p.recip_kid) (explicit_octets 0xA4 0x04 p.tid) (explicit_octets 0xA5 0x04 p.sender_nonce) (explicit_octets 0xA6 0x04 p.recip_nonce) (explicit_octets 0xA7 0x30 p.free_text) (explicit_octets 0xA8 0x30 p.info),
+      plain_least 0xA1 p.alg,
+      explicit_least 0xA2 0x04 p.sender_kid,
+      explicit_least 0xA3 0x04 p.recip_kid,
+      explicit_least 0xA4 0x04 p.tid,
+      explicit_least 0xA5 0x04 p.sender_nonce,
+      explicit_least 0xA6 0x04 p.recip_nonce,
+      explicit_least 0xA7 0x30 p.free_text,
+      explicit_least 0xA8 0x30 p.info,
+    )
+
+pub planned_least : (p : HeaderPlan) (octets : List ℕ) → IsPlanned p octets → plan_size p ≤ length octets
+planned_least p octets is = omega (arith, ap (λ (l : List ℕ). length l) is.spelled, length_element_lt 0x30 (planned_content p is.time), plan_least p is.time)

@@ -9,8 +9,8 @@ ghost use Rattle.pki_header.specs.Plan.{planned_content, IsPlanned, field_size, 
 ghost use Rattle.pki_header.specs.Time.{IsTimeOf};
 
 use asn_parts::number;
-use cmp_ports::Octets;
 use cmp_time::generalized;
+use cmp_values::Octets;
 use der_base::Writer;
 use std::alloc::{AllocError, Global};
 

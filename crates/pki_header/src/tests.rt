@@ -3,7 +3,7 @@ ghost use Rattle.std.specs.Prelude.{◌≡◌, ◌≤◌, ◌↔◌, IsTrue, IfS
 ghost use Rattle.pki_header.specs.Plan.{field_size};
 
 use crate::{Header, HeaderPlan, read_header, write_header};
-use cmp_ports::Octets;
+use cmp_values::Octets;
 use der_base::whole;
 use std::alloc::{AllocError, Global};
 use std::process::Abort;

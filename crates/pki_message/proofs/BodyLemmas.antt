@@ -60,7 +60,7 @@ sequence_again read Form law inside x is =
     ap (λ (o : Option Part). o >>= in_sequence read) (whole_again inside 0x30 is.content is.alone) ∙ law is.content x is.form
 
 -- a content that passes a test
-tested_form : (test : List ℕ → Bool) (Form : List ℕ → Type 0) → ((content : List ℕ) → IsTrue (test content) ↔ Form content) → IsRead (tested_at test) same Form
+pub tested_form : (test : List ℕ → Bool) (Form : List ℕ → Type 0) → ((content : List ℕ) → IsTrue (test content) ↔ Form content) → IsRead (tested_at test) same Form
 tested_form test Form means = record {
   takes = λ bytes x e. let t = (tested_is_read test).takes bytes x e in ((means x).0 t.0, t.1);
   again = λ x h. (tested_is_read test).again x ((means x).1 h);
@@ -78,7 +78,7 @@ sequences_test content = (
   λ r. and_both (not (eqb (length content) 0)) _ ((not_empty content).1 r.some) ((row_of is_sequence_part IsSequencePart part_test content).1 r.row),
 )
 
-pub sequences_are_read : IsRead sequences_at (tagged 0x30 same) (FitsTagged same IsSequences)
+sequences_are_read : IsRead sequences_at (tagged 0x30 same) (FitsTagged same IsSequences)
 sequences_are_read = sole_is_read (tested_at are_sequences) 0x30 same IsSequences (omega arith) (tested_form are_sequences IsSequences sequences_test)
 
 infos_are_read : IsRead infos_at (tagged 0x30 same) (FitsTagged same IsInfos)

@@ -1,27 +1,46 @@
 -- Messages are read exactly where they are spelled.
-use Rattle.std.proofs.Common.{◌≡◌, ℕ, ◌+◌, ◌^◌, ◌<◌, List, [], length, Option, Some, None, Result, Ok, Err, IfOk, refl, sym, ap, subst, ◌∙◌, arith}
+use Rattle.std.proofs.Common.{◌≡◌, ℕ, ◌+◌, ◌^◌, ◌<◌, not, eqb, IsTrue, ◌↔◌, List, [], length, Option, Some, None, Result, Ok, Err, IfOk, refl, sym, ap, subst, ◌∙◌, arith}
 use Rattle.std.specs.Prelude.{option_map, IfSome}
 use Rattle.der_base.specs.Element.{element, IsElement}
 use Rattle.der_base.specs.Reading.{Part, whole_at}
 use Rattle.der_base.proofs.ElementLemmas.{begins_no_other}
 use Rattle.asn_fields.specs.Fields.{◌>>=◌, Gives, ok_of}
-use Rattle.asn_fields.specs.Forms.{FitsOptional}
+use Rattle.asn_fields.specs.Forms.{IsRead, FitsOptional}
 use Rattle.asn_fields.specs.declared.fault.BadForm.{BadForm}
 use Rattle.asn_fields.proofs.FieldLemmas.{bound, some_same}
-use Rattle.asn_types.specs.Template.{IsAnything, same}
+use Rattle.asn_types.specs.Template.{IsAnything, same, tested_at}
 use Rattle.asn_types.proofs.LengthLemmas.{length_element_lt}
+use Rattle.asn_types.proofs.NameLemmas.{not_empty}
+use Rattle.asn_types.proofs.RowLemmas.{both, and_both}
 use Rattle.asn_types.proofs.ValueLemmas.{whole_takes, whole_again}
-use Rattle.pki_message.specs.Body.{BodyForm, tag_of, IsSequences, IsBody, body_at, sequences_at}
+use Rattle.asn_parts.specs.Parts.{tagged, FitsTagged}
+use Rattle.asn_parts.proofs.PartLemmas.{sole_is_read}
+use Rattle.pki_parts.specs.Certificates.{are_certificates}
+use Rattle.pki_parts.proofs.CertificateLemmas.{certificates_test}
+use Rattle.pki_message.specs.Body.{BodyForm, tag_of, IsBody, body_at}
 use Rattle.pki_message.specs.Frame.{FrameForm, IsFrame}
-use Rattle.pki_message.specs.Message.{MessageForm, frame_in, IsMessage, MessageBeginsNoOther, message_of, extra_at, message_with, message_at}
+use Rattle.pki_message.specs.Message.{IsExtraCerts, MessageForm, frame_in, IsMessage, MessageBeginsNoOther, message_of, are_extra_certs, extra_certs_at, extra_at, message_with, message_at}
 use Rattle.pki_message.specs.declared.message.Message.{Message}
 use Rattle.pki_message.proofs.FrameLemmas.{frame_begins_no_other}
-use Rattle.pki_message.proofs.BodyLemmas.{body_takes, body_again, sequences_are_read}
+use Rattle.pki_message.proofs.BodyLemmas.{body_takes, body_again, tested_form}
+
+-- one or more certificates
+extra_certs_test : (content : List ℕ) → IsTrue (are_extra_certs content) ↔ IsExtraCerts content
+unfolding are_extra_certs
+extra_certs_test content = (
+  λ h.
+      let parts = both (not (eqb (length content) 0)) (are_certificates content) h in
+      record { some = (not_empty content).0 parts.0; row = (certificates_test content).0 parts.1 },
+  λ r. and_both (not (eqb (length content) 0)) (are_certificates content) ((not_empty content).1 r.some) ((certificates_test content).1 r.row),
+)
+
+extra_certs_are_read : IsRead extra_certs_at (tagged 0x30 same) (FitsTagged same IsExtraCerts)
+extra_certs_are_read = sole_is_read (tested_at are_extra_certs) 0x30 same IsExtraCerts (omega arith) (tested_form are_extra_certs IsExtraCerts extra_certs_test)
 
 -- certificates, where there are some
 record IsExtraOf (octets content : Option (List ℕ)) : Type 0 where
   tagged : octets ≡ option_map (element 0x30) content
-  form : IfSome content IsSequences
+  form : IfSome content IsExtraCerts
 
 extra_made : (octets a b : Option (List ℕ)) → IsExtraOf octets a → a ≡ b → IsExtraOf octets b
 extra_made octets a b is e = subst (λ (x : Option (List ℕ)). IsExtraOf octets x) e is
@@ -30,16 +49,16 @@ extra_takes : (octets content : Option (List ℕ)) → extra_at octets ≡ Some 
 unfolding extra_at
 extra_takes None content e = extra_made None None content (record { tagged = refl; form = tt }) (some_same None content e)
 extra_takes (Some octets) content e =
-    bound (IsExtraOf (Some octets) content) (sequences_at octets) (λ (y : List ℕ). Some (Some y)) content e (λ y got k.
-    let w = sequences_are_read.takes octets y got in
+    bound (IsExtraOf (Some octets) content) (extra_certs_at octets) (λ (y : List ℕ). Some (Some y)) content e (λ y got k.
+    let w = extra_certs_are_read.takes octets y got in
     extra_made (Some octets) (Some y) content (record { tagged = ap Some w.1; form = w.0.0 }) (some_same (Some y) content k))
 
-extra_again : (content : Option (List ℕ)) → IfSome content IsSequences → FitsOptional same IsAnything (option_map (element 0x30) content) → extra_at (option_map (element 0x30) content) ≡ Some content
+extra_again : (content : Option (List ℕ)) → IfSome content IsExtraCerts → FitsOptional same IsAnything (option_map (element 0x30) content) → extra_at (option_map (element 0x30) content) ≡ Some content
 unfolding extra_at
 extra_again None form fits = refl
 extra_again (Some y) form fits =
     let counted : length y < 2 ^ 32 = omega (arith, fits.1, length_element_lt 0x30 y) in
-    ap (λ (o : Option (List ℕ)). o >>= λ z. Some (Some z)) (sequences_are_read.again y (form, counted))
+    ap (λ (o : Option (List ℕ)). o >>= λ z. Some (Some z)) (extra_certs_are_read.again y (form, counted))
 
 abbrev frame_with : FrameForm → ℕ → Option (List ℕ) → FrameForm
 frame_with f tag extra = record {

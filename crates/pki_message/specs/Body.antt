@@ -74,7 +74,7 @@ pub record IsSequence (Form : List ℕ → Type 0) (octets : List ℕ) : Type 0 
   pub alone : IsElement octets 0x30 content
   pub form : Form content
 
--- One or more SEQUENCEs, which are not looked into: messages in a message, and certificates behind it.
+-- One or more SEQUENCEs, which are not looked into: messages in a message.
 abbrev pub IsSequencePart : Part → Type 0
 IsSequencePart p = p.tag ≡ 0x30
 

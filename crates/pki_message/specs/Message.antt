@@ -1,13 +1,21 @@
 -- PKIMessage (RFC 9810, 5.1): a frame whose body is looked into, and whose extraCerts are certificates.
-use Rattle.std.specs.Prelude.{◌≡◌, ℕ, ◌+◌, ◌≤◌, ◌++◌, IfSome, List, [], length, Option, Some, None, option_map}
+use Rattle.std.specs.Prelude.{◌≡◌, ◌≢◌, ℕ, ◌+◌, ◌≤◌, ◌++◌, ◌&&◌, ◌==◌, not, Bool, IfSome, List, [], length, Option, Some, None, option_map}
 use Rattle.std.specs.Option.{option_copied}
 use Rattle.der_base.specs.Element.{element, IsElement}
 use Rattle.der_base.specs.Reading.{whole_at}
 use Rattle.asn_fields.specs.Fields.{◌>>=◌, ok_of}
+use Rattle.asn_types.specs.Template.{tested_at}
+use Rattle.asn_parts.specs.Parts.{sole_with}
 use Rattle.pki_header.specs.Header.{HeadForm, head_of}
-use Rattle.pki_message.specs.Body.{BodyForm, IsInside, IsSequences, tag_of, body_of, body_at, sequences_at}
+use Rattle.pki_parts.specs.Certificates.{IsCertificates, are_certificates}
+use Rattle.pki_message.specs.Body.{BodyForm, IsInside, tag_of, body_of, body_at}
 use Rattle.pki_message.specs.Frame.{FrameForm, FitsFrame, frame_content, message_limit}
 use Rattle.pki_message.specs.declared.message.Message.{Message}
+
+-- One or more certificates, each a SEQUENCE of whole elements: what extraCerts carry.
+pub record IsExtraCerts (content : List ℕ) : Type 0 where
+  pub some : content ≢ []
+  pub row : IsCertificates content
 
 -- what stands in a message: the header, the second of its time, and the body; the whole elements of both; the protection's
 -- octets; and the content of the SEQUENCE of certificates
@@ -38,7 +46,7 @@ pub record FitsMessage (m : MessageForm) : Type 0 where
   pub inside : List ℕ
   pub body : IsElement m.body_bytes (0xA0 + tag_of m.body) inside
   pub form : IsInside m.body inside
-  pub extra : IfSome m.extra IsSequences
+  pub extra : IfSome m.extra IsExtraCerts
 
 -- The octets are this message, and at most as many as are read.
 pub record IsMessage (bytes : List ℕ) (m : MessageForm) : Type 0 where
@@ -63,9 +71,15 @@ message_of m = record {
 }
 
 -- what is read of a frame
+unfoldable pub are_extra_certs : List ℕ → Bool
+are_extra_certs content = not (length content == 0) && are_certificates content
+
+abbrev pub extra_certs_at : List ℕ → Option (List ℕ)
+extra_certs_at = sole_with (tested_at are_extra_certs) 0x30
+
 unfoldable pub extra_at : Option (List ℕ) → Option (Option (List ℕ))
 extra_at None = Some None
-extra_at (Some octets) = sequences_at octets >>= λ x. Some (Some x)
+extra_at (Some octets) = extra_certs_at octets >>= λ x. Some (Some x)
 
 abbrev pub message_with : FrameForm → BodyForm → Option (List ℕ) → MessageForm
 message_with f body extra = record {

@@ -93,7 +93,7 @@ fn sequences_inside(content: &[u8]) -> Result<&[u8], BadForm>
 }
 
 /// The content of a SEQUENCE of one or more SEQUENCEs that stands alone.
-pub(crate) fn sequences(bytes: &[u8]) -> Result<&[u8], BadForm>
+fn sequences(bytes: &[u8]) -> Result<&[u8], BadForm>
     ensures { Gives (λ octets. octets.now) result (sequences_at bytes.now) }
 {
     let element = sole(0x30, bytes)?;

@@ -2,12 +2,14 @@
 ghost use Rattle.std.specs.Prelude.{◌≡◌, IfOk, Some};
 ghost use Rattle.std.specs.Option.{option_copied};
 ghost use Rattle.asn_fields.specs.Fields.{Gives};
+ghost use Rattle.asn_types.specs.Template.{tested_at};
 
-use crate::body::{Body, read_body, sequences};
+use crate::body::{Body, read_body};
 use crate::frame::{Frame, read_frame};
-use asn_fields::BadForm;
+use asn_fields::{BadForm, sole};
 use der_base::whole;
 use pki_header::Header;
+use pki_parts::are_certificates;
 
 /// A message, whose octets it borrows (RFC 9810, 5.1): the header and the body, and their whole elements; the protection's octets;
 /// and the content of the SEQUENCE of certificates in extraCerts.
@@ -22,7 +24,26 @@ pub struct Message<'a> {
 }
 
 ghost use Rattle.pki_message.specs.Frame.{frame_of};
-ghost use Rattle.pki_message.specs.Message.{MessageForm, IsMessage, message_of, extra_at, message_at};
+ghost use Rattle.pki_message.specs.Message.{MessageForm, IsMessage, message_of, are_extra_certs, extra_certs_at, extra_at, message_at};
+
+/// One or more certificates.
+#[tactic(auto, unfolding(crate::specs::Message::are_extra_certs, asn_types::specs::Template::tested_at))]
+fn certificates_inside(content: &[u8]) -> Result<&[u8], BadForm>
+    ensures { Gives (λ octets. octets.now) result (tested_at are_extra_certs content.now) }
+{
+    if content.is_empty() || !are_certificates(content) {
+        return Err(BadForm);
+    }
+    Ok(content)
+}
+
+/// The content of a SEQUENCE of one or more certificates that stands alone.
+fn extra_certs(bytes: &[u8]) -> Result<&[u8], BadForm>
+    ensures { Gives (λ octets. octets.now) result (extra_certs_at bytes.now) }
+{
+    let element = sole(0x30, bytes)?;
+    certificates_inside(element.content)
+}
 
 /// Certificates, where there are some.
 #[tactic(auto, unfolding(crate::specs::Message::extra_at))]
@@ -31,7 +52,7 @@ fn certificates(extra: Option<&[u8]>) -> Result<Option<&[u8]>, BadForm>
 {
     match extra {
         None => Ok(None),
-        Some(octets) => Ok(Some(sequences(octets)?)),
+        Some(octets) => Ok(Some(extra_certs(octets)?)),
     }
 }
 

@@ -8,7 +8,7 @@ ghost use Rattle.pki_message.specs.Frame.{FrameForm, FitsFrame, IsFrame, bits_sp
 ghost use Rattle.pki_message.specs.Message.{MessageForm, FitsMessage, IsMessage, frame_in};
 ghost use Rattle.pki_message.specs.Written.{HasParts, one_certificate, written_content, message_size};
 
-use cmp_ports::Octets;
+use cmp_values::Octets;
 use der_base::Writer;
 use std::alloc::{AllocError, Global};
 

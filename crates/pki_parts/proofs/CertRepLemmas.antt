@@ -1,5 +1,5 @@
 -- Replies to requests for certificates are read exactly where they are spelled.
-use Rattle.std.proofs.Common.{◌≡◌, ◌≢◌, ℕ, ℤ, ◌+◌, ◌%◌, ◌^◌, ◌<◌, ◌≤◌, ◌++◌, Bool, true, false, cond, eqb, IsTrue, ◌↔◌, List, [], ◌∷◌, length, map, Option, Some, None, Result, Ok, Err, IfOk, append-nil, eqb-true, eq-eqb, refl, sym, ap, subst, ◌∙◌, arith}
+use Rattle.std.proofs.Common.{◌≡◌, ◌≢◌, ℕ, ℤ, ◌+◌, ◌%◌, ◌^◌, ◌<◌, ◌≤◌, ◌++◌, Bool, true, false, cond, eqb, List, [], ◌∷◌, length, map, Option, Some, None, Result, Ok, Err, IfOk, append-nil, eqb-true, eq-eqb, refl, sym, ap, subst, ◌∙◌, arith}
 use Rattle.std.specs.Prelude.{IfSome}
 use Rattle.std.proofs.lemmas.List.{length-append, length-map}
 use Rattle.asn_types.proofs.LengthLemmas.{length_element_le}
@@ -15,32 +15,34 @@ use Rattle.asn_fields.proofs.RowLemmas.{row_takes, row_again}
 use Rattle.asn_types.specs.Algorithm.{IsAny}
 use Rattle.asn_types.specs.Template.{IsAnything, Passes, same, tested_at, anything_at}
 use Rattle.asn_types.proofs.OptionalLemmas.{IsNotAt, optional_there, optional_not}
-use Rattle.asn_types.proofs.RowLemmas.{row_of as row_test}
 use Rattle.asn_types.proofs.ValueLemmas.{whole_takes, whole_again}
 use Rattle.asn_parts.specs.Parts.{tagged, FitsTagged, required_with, sole_with}
 use Rattle.asn_parts.proofs.PartLemmas.{tested_is_read, anything_is_read, required_front, sole_is_read}
+use Rattle.pki_parts.specs.Certificates.{IsElements, IsWholeCertificate, IsCertificates, are_elements, are_certificates}
 use Rattle.pki_parts.specs.Identifier.{id_octets}
 use Rattle.pki_parts.specs.Status.{StatusForm, status_content, status_at, option_size}
-use Rattle.pki_parts.specs.CertRep.{IsSequence, IsCertificate, IsCertificates, CertForm, certificate, encrypted, cert_spelling, FitsCert, PairForm, pair_content, FitsPair, ResponseForm, response_content, FitsResponse, ShownForm, shown_of, RepForm, ca_pubs_spelling, FitsCaPubs, IsCertRep, rep_of, is_certificate, are_certificates, certificate_at, any_alone_at, cert_or, cert_front_at, pair_at, response_at, shown_row, rep_at, pair_octets, response_octets, rep_octets, written_response, written_rep, IsWritten}
+use Rattle.pki_parts.specs.CertRep.{CertForm, certificate, encrypted, cert_spelling, FitsCert, PairForm, pair_content, FitsPair, ResponseForm, response_content, FitsResponse, ShownForm, shown_of, RepForm, ca_pubs_spelling, FitsCaPubs, IsCertRep, rep_of, certificate_at, any_alone_at, cert_or, cert_front_at, pair_at, response_at, shown_row, rep_at, pair_octets, response_octets, rep_octets, written_response, written_rep, IsWritten}
 use Rattle.pki_parts.specs.declared.cert_rep.CertRep.{CertRep}
+use Rattle.pki_parts.proofs.CertificateLemmas.{elements_test, certificates_are_read}
 use Rattle.pki_parts.proofs.FieldLemmas.{nothing_over, field_not, field_last, other_tag, front_fits, back_fits, inside_fits}
 use Rattle.pki_parts.proofs.StatusLemmas.{status_field}
 
 -- a certificate, and an element of any form, that stands alone
-certificate_by : (bytes x : List ℕ) (p : Part) → IsTagged 0x30 bytes p [] → p.whole ≡ x → IsSequence x × (bytes ≡ same x)
-certificate_by bytes x p t e = (record { content = p.content; alone = subst (λ (l : List ℕ). IsElement l 0x30 p.content) e t.element_is }, t.parts ∙ append-nil p.whole ∙ e)
+certificate_by : (bytes x : List ℕ) (p : Part) → IsElements p.content → IsTagged 0x30 bytes p [] → p.whole ≡ x → IsWholeCertificate x × (bytes ≡ same x)
+certificate_by bytes x p elements t e = (record { content = p.content; alone = subst (λ (l : List ℕ). IsElement l 0x30 p.content) e t.element_is; elements = elements }, t.parts ∙ append-nil p.whole ∙ e)
 
-certificate_takes : (bytes x : List ℕ) → certificate_at bytes ≡ Some x → IsSequence x × (bytes ≡ same x)
+certificate_takes : (bytes x : List ℕ) → certificate_at bytes ≡ Some x → IsWholeCertificate x × (bytes ≡ same x)
 unfolding certificate_at
 certificate_takes bytes x e =
-    bound (IsSequence x × (bytes ≡ same x)) (sole_at 0x30 bytes) (λ (p : Part). Some p.whole) x e (λ p read last.
-    certificate_by bytes x p (sole_takes 0x30 bytes p read) (some_same p.whole x last))
+    bound (IsWholeCertificate x × (bytes ≡ same x)) (sole_at 0x30 bytes) _ x e (λ p read last.
+    passed (IsWholeCertificate x × (bytes ≡ same x)) (are_elements p.content) p.whole x last (λ elements is.
+    certificate_by bytes x p ((elements_test p.content).0 elements) (sole_takes 0x30 bytes p read) is))
 
-certificate_again : (x : List ℕ) → IsSequence x → certificate_at (same x) ≡ Some x
+certificate_again : (x : List ℕ) → IsWholeCertificate x → certificate_at (same x) ≡ Some x
 unfolding certificate_at
-certificate_again x is = rw (sole_reads 0x30 x is.content is.alone) (ap (λ (l : List ℕ). Some l) (sym is.alone.spelled))
+certificate_again x is = rw (sole_reads 0x30 x is.content is.alone, (elements_test is.content).1 is.elements) (ap (λ (l : List ℕ). Some l) (sym is.alone.spelled))
 
-certificate_is_read : IsRead certificate_at same IsSequence
+certificate_is_read : IsRead certificate_at same IsWholeCertificate
 certificate_is_read = record { takes = certificate_takes; again = certificate_again }
 
 any_by : (bytes x : List ℕ) (p : Part) → IsElement bytes p.tag p.content → p.whole ≡ bytes → p.whole ≡ x → IsAny x × (bytes ≡ same x)
@@ -63,19 +65,6 @@ any_is_read : IsRead any_alone_at same IsAny
 any_is_read = record { takes = any_takes; again = any_again }
 
 -- a row of certificates
-certificate_test : (p : Part) → IsTrue (is_certificate p) ↔ IsCertificate p
-certificate_test p = (λ h. eqb-true p.tag 0x30 h, λ h. eq-eqb p.tag 0x30 h)
-
-certificates_test : (content : List ℕ) → IsTrue (are_certificates content) ↔ IsCertificates content
-unfolding are_certificates
-certificates_test content = row_test is_certificate IsCertificate certificate_test content
-
-certificates_are_read : IsRead (tested_at are_certificates) same IsCertificates
-certificates_are_read = record {
-  takes = λ bytes x e. let t = (tested_is_read are_certificates).takes bytes x e in ((certificates_test x).0 t.0, t.1);
-  again = λ x h. (tested_is_read are_certificates).again x ((certificates_test x).1 h);
-}
-
 ca_pubs_law : IsRead (sole_with (tested_at are_certificates) 0x30) (tagged 0x30 same) (FitsTagged same IsCertificates)
 ca_pubs_law = sole_is_read (tested_at are_certificates) 0x30 same IsCertificates (omega arith) certificates_are_read
 
@@ -83,8 +72,8 @@ ca_pubs_field : IsField (optional_with (sole_with (tested_at are_certificates) 0
 ca_pubs_field = optional_field (sole_with (tested_at are_certificates) 0x30) 0xA1 (tagged 0x30 same) (FitsTagged same IsCertificates) (omega arith) ca_pubs_law
 
 -- a certificate, encrypted or not
-certificate_field : IsField (optional_with certificate_at 0xA0) 0xA0 same IsSequence
-certificate_field = optional_field certificate_at 0xA0 same IsSequence (omega arith) certificate_is_read
+certificate_field : IsField (optional_with certificate_at 0xA0) 0xA0 same IsWholeCertificate
+certificate_field = optional_field certificate_at 0xA0 same IsWholeCertificate (omega arith) certificate_is_read
 
 encrypted_front : IsFront (required_with any_alone_at 0xA1) (tagged 0xA1 same) (FitsTagged same IsAny)
 encrypted_front = required_front any_alone_at 0xA1 same IsAny (omega arith) any_is_read
@@ -92,7 +81,7 @@ encrypted_front = required_front any_alone_at 0xA1 same IsAny (omega arith) any_
 abbrev SpelledCert : List ℕ → CertForm × List ℕ → Type 0
 SpelledCert bytes z = FitsCert z.0 × (bytes ≡ cert_spelling z.0 ++ z.1)
 
-cert_by : (bytes : List ℕ) (o : Option (List ℕ)) (more : List ℕ) (z : CertForm × List ℕ) → FitsOptional same IsSequence o → bytes ≡ optional_spelling 0xA0 same o ++ more → cert_or (o, more) ≡ Some z → SpelledCert bytes z
+cert_by : (bytes : List ℕ) (o : Option (List ℕ)) (more : List ℕ) (z : CertForm × List ℕ) → FitsOptional same IsWholeCertificate o → bytes ≡ optional_spelling 0xA0 same o ++ more → cert_or (o, more) ≡ Some z → SpelledCert bytes z
 cert_by bytes (Some octets) more z fits parts e = subst (SpelledCert bytes) (some_same (certificate octets, more) z e) (fits, parts)
 cert_by bytes None more z fits parts e =
     bound (SpelledCert bytes z) (required_with any_alone_at 0xA1 more) (λ (r : List ℕ × List ℕ). Some (encrypted r.0, r.1)) z e (λ r read last.
@@ -313,7 +302,7 @@ pair_spelled : (cert : Option (List ℕ)) → pair_octets cert ≡ optional_spel
 pair_spelled None = refl
 pair_spelled (Some cert) = ap (element 0x30) (sym (append-nil (element 0xA0 cert))) ∙ sym (append-nil (element 0x30 (element 0xA0 cert ++ [])))
 
-pair_fits : (cert : Option (List ℕ)) → IfSome cert IsSequence → length (pair_octets cert) < 2 ^ 32 → FitsOptional pair_content FitsPair (written_pair cert)
+pair_fits : (cert : Option (List ℕ)) → IfSome cert IsWholeCertificate → length (pair_octets cert) < 2 ^ 32 → FitsOptional pair_content FitsPair (written_pair cert)
 pair_fits None h counted = tt
 pair_fits (Some cert) h counted =
     let pair : length (element 0xA0 cert) < 2 ^ 32 = inside_fits (2 ^ 32) 0x30 (element 0xA0 cert) counted in

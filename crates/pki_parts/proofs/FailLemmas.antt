@@ -1,10 +1,10 @@
 -- The lowest bit that is set and has a name.
 use Rattle.std.proofs.Common.{◌≡◌, ℕ, ◌+◌, ◌<◌, ◌≤◌, Bool, true, false, IsTrue, refl, arith}
 use Rattle.der_base.specs.Values.{BitString}
-use Rattle.cmp_ports.specs.Reasons.{bit_of}
+use Rattle.cmp_values.specs.Reasons.{bit_of}
 use Rattle.pki_parts.specs.FailInfo.{is_set}
-use Rattle.cmp_ports.specs.declared.fail_info.FailInfo.{FailInfo}
-use Rattle.cmp_ports.specs.declared.fail_info.FailInfo.TheVariants as reason
+use Rattle.cmp_values.specs.declared.fail_info.FailInfo.{FailInfo}
+use Rattle.cmp_values.specs.declared.fail_info.FailInfo.TheVariants as reason
 
 -- no reason has a bit above 26
 last_bit : (fail : FailInfo) → bit_of fail ≤ 26

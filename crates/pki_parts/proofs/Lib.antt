@@ -1,4 +1,5 @@
 pub mod CertRepLemmas
+pub mod CertificateLemmas
 pub mod ConfirmationLemmas
 pub mod ErrorLemmas
 pub mod FailLemmas

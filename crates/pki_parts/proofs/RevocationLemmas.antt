@@ -1,5 +1,5 @@
 -- Requests to revoke are read exactly where they are spelled.
-use Rattle.std.proofs.Common.{◌≡◌, ℕ, ◌+◌, ◌≤◌, ◌^◌, ◌<◌, ◌++◌, eqb, List, [], ◌∷◌, length, Some, Result, IfOk, append-nil, refl, sym, ap, subst, ◌∙◌, arith}
+use Rattle.std.proofs.Common.{◌≡◌, ℕ, ◌+◌, ◌≤◌, ◌^◌, ◌<◌, ◌++◌, eqb, List, [], ◌∷◌, length, Some, Result, Ok, Err, IfOk, append-nil, refl, sym, ap, subst, ◌∙◌, arith}
 use Rattle.std.proofs.lemmas.List.{length-append}
 use Rattle.der_base.specs.Element.{element}
 use Rattle.der_base.specs.Reading.{part}
@@ -16,8 +16,8 @@ use Rattle.asn_parts.specs.Parts.{tagged, FitsTagged, required_with}
 use Rattle.asn_parts.proofs.NumberLemmas.{number_form, number_size}
 use Rattle.asn_parts.proofs.PartLemmas.{tested_is_read, required_front}
 use Rattle.pki_parts.specs.Lists.{IsOne}
-use Rattle.pki_parts.specs.Reason.{reason_extension}
-use Rattle.pki_parts.specs.Revocation.{RevForm, rev_content, FitsRev, IsRevReq, rev_at, rev_template_octets, rev_req_octets, rev_template, rev_details}
+use Rattle.pki_parts.specs.Reason.{IsReasonOf, reason_extension}
+use Rattle.pki_parts.specs.Revocation.{RevForm, rev_content, FitsRev, IsRevReq, GivesReason, rev_at, rev_template_octets, rev_req_octets, rev_template, rev_details}
 use Rattle.pki_parts.proofs.FieldLemmas.{nothing_over, field_last}
 use Rattle.pki_parts.proofs.ListLemmas.{one_entry, one_written}
 use Rattle.pki_parts.proofs.ReasonLemmas.{extension_size, reason_extensions}
@@ -104,6 +104,11 @@ rev_req_result r issuer serial reason small counted e name =
     one_written (λ p. IsRevReq p (row_of (d ∷ []))) r (element 0x30 octets) entry
     (subst (λ (l : List ℕ). IsRevReq (part 0x30 (element 0x30 l)) (row_of (d ∷ []))) (sym same_octets)
     (one_entry rev_content FitsRev d (details_fit issuer serial reason name small counted) (subst (λ (l : List ℕ). length l < 2 ^ 32) same_octets inside))) e
+
+-- and so is its reason
+pub rev_req_reason : {E : Type 0} (r : Result (List ℕ) E) (issuer : List ℕ) (serial reason : ℕ) → IfOk r (IsOne (λ p. IsRevReq p (row_of (rev_details issuer serial reason ∷ [])))) → IsReasonOf (Some (reason_extension reason)) reason → IfOk r (λ octets. GivesReason octets reason)
+rev_req_reason (Ok octets) issuer serial reason one given = record { details = rev_details issuer serial reason; one = one; given = given }
+rev_req_reason (Err e) issuer serial reason one given = tt
 
 -- how long it is at most
 pub rev_req_size : (issuer : List ℕ) (serial reason : ℕ) → length (rev_req_octets issuer serial reason) ≤ length issuer + 128

@@ -18,8 +18,8 @@ use Rattle.asn_parts.proofs.NumberLemmas.{number_form, number_size}
 use Rattle.asn_parts.proofs.PartLemmas.{tested_is_read, required_front}
 use Rattle.pki_parts.specs.Texts.{IsText, IsTexts, are_texts}
 use Rattle.pki_parts.specs.Status.{StatusForm, FitsStatus, IsBits, IsTextOrNone, status_content, bits_content, bits_inside_at, status_at, one_text, reason_bits, written_status, option_size}
-use Rattle.cmp_ports.specs.declared.fail_info.FailInfo.{FailInfo}
-use Rattle.cmp_ports.specs.declared.fail_info.FailInfo.TheVariants as reason
+use Rattle.cmp_values.specs.declared.fail_info.FailInfo.{FailInfo}
+use Rattle.cmp_values.specs.declared.fail_info.FailInfo.TheVariants as reason
 use Rattle.pki_parts.proofs.FieldLemmas.{nothing_over, field_not, field_last, other_tag, front_fits, back_fits, inside_fits}
 use Rattle.pki_parts.proofs.TextLemmas.{texts_are_read}
 

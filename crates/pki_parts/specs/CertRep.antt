@@ -1,18 +1,16 @@
 -- CertRepMessage (RFC 9810, 5.3.4), the body of ip, cp and kup.
-use Rattle.std.specs.Prelude.{◌≡◌, ℕ, ℤ, ◌^◌, ◌<◌, ◌++◌, ◌==◌, Bool, if◌then◌else◌, List, [], ◌∷◌, length, map, Option, Some, None, option_map, IfSome}
-use Rattle.std.specs.List.{list_all}
+use Rattle.std.specs.Prelude.{◌≡◌, ℕ, ℤ, ◌^◌, ◌<◌, ◌++◌, ◌==◌, if◌then◌else◌, List, [], ◌∷◌, length, map, Option, Some, None, option_map, IfSome}
 use Rattle.std.specs.Option.{option_copied}
 use Rattle.der_base.specs.Element.{element, IsElement}
-use Rattle.der_base.specs.Reading.{Part, whole_at}
-use Rattle.der_base.specs.Row.{items_of}
+use Rattle.der_base.specs.Reading.{whole_at}
 use Rattle.der_base.specs.Values.{is_integer}
 use Rattle.asn_fields.specs.Fields.{◌>>=◌, ok_of, sole_at, optional_with}
 use Rattle.asn_fields.specs.Forms.{optional_spelling, FitsOptional}
 use Rattle.asn_fields.specs.Rows.{RowForm, row_of, entries_spelling, FitsEntries, row_at}
 use Rattle.asn_types.specs.Algorithm.{IsAny}
-use Rattle.asn_types.specs.Rows.{IsRowOf, passes}
 use Rattle.asn_types.specs.Template.{IsAnything, Passes, same, tested_at, anything_at}
 use Rattle.asn_parts.specs.Parts.{tagged, FitsTagged, required_with, sole_with}
+use Rattle.pki_parts.specs.Certificates.{IsWholeCertificate, IsCertificates, are_elements, are_certificates}
 use Rattle.pki_parts.specs.Identifier.{id_octets}
 use Rattle.pki_parts.specs.Status.{StatusForm, FitsStatus, status_content, status_of, status_at}
 use Rattle.pki_parts.specs.declared.cert_rep.CertOrEncCert.{CertOrEncCert}
@@ -21,18 +19,6 @@ use Rattle.pki_parts.specs.declared.cert_rep.KeyPair.{KeyPair}
 use Rattle.pki_parts.specs.declared.cert_rep.Response.{Response}
 use Rattle.pki_parts.specs.declared.cert_rep.CertResponse.{CertResponse}
 use Rattle.pki_parts.specs.declared.cert_rep.CertRep.{CertRep}
-
--- The octets are one SEQUENCE, as a certificate is.
-pub record IsSequence (octets : List ℕ) : Type 0 where
-  pub content : List ℕ
-  pub alone : IsElement octets 0x30 content
-
--- Certificates: a row of SEQUENCEs, which are not looked into.
-abbrev pub IsCertificate : Part → Type 0
-IsCertificate p = p.tag ≡ 0x30
-
-abbrev pub IsCertificates : List ℕ → Type 0
-IsCertificates = IsRowOf IsCertificate
 
 -- CertOrEncCert: a whole certificate [0], or a whole element of any form [1]
 pub data CertForm : Type 0 where
@@ -44,7 +30,7 @@ cert_spelling (certificate octets) = element 0xA0 octets
 cert_spelling (encrypted octets) = element 0xA1 octets
 
 abbrev pub FitsCert : CertForm → Type 0
-FitsCert (certificate octets) = FitsTagged same IsSequence octets
+FitsCert (certificate octets) = FitsTagged same IsWholeCertificate octets
 FitsCert (encrypted octets) = FitsTagged same IsAny octets
 
 -- CertifiedKeyPair: the certificate, then privateKey [0] and publicationInfo [1], each a whole element of any form, which may be
@@ -135,16 +121,10 @@ abbrev pub rep_of : CertRep → RepForm
 rep_of r = record { ca_pubs = option_copied r.ca_pubs; row = record { count = r.count; first = option_map shown_by r.first } }
 
 -- what is read
-abbrev pub is_certificate : Part → Bool
-is_certificate p = p.tag == 0x30
-
-unfoldable pub are_certificates : List ℕ → Bool
-are_certificates content = list_all (passes is_certificate) (items_of content)
-
 unfoldable pub certificate_at : List ℕ → Option (List ℕ)
 certificate_at content = do
   p ← sole_at 0x30 content
-  Some p.whole
+  if are_elements p.content then Some p.whole else None
 
 unfoldable pub any_alone_at : List ℕ → Option (List ℕ)
 any_alone_at content = do
@@ -209,4 +189,4 @@ pub record IsWritten (ca_pubs : Option (List ℕ)) (status : List ℕ) (form : S
   pub ca_pubs_fit : IfSome ca_pubs IsCertificates
   pub status_fits : FitsStatus form
   pub status_is : IsElement status 0x30 (status_content form)
-  pub cert_is : IfSome cert IsSequence
+  pub cert_is : IfSome cert IsWholeCertificate

@@ -1,8 +1,8 @@
 -- Reasons of refusal (PKIFailureInfo, RFC 9810, 5.2.3).
 use Rattle.std.specs.Prelude.{◌≡◌, ℕ, ◌-◌, ◌/◌, ◌%◌, ◌^◌, ◌≤◌, ◌++◌, ◌==◌, Bool, false, IsTrue, [], ◌∷◌, replicate, slice_index_or, Option, Some, None}
 use Rattle.der_base.specs.Values.{BitString}
-use Rattle.cmp_ports.specs.declared.fail_info.FailInfo.{FailInfo}
-use Rattle.cmp_ports.specs.Reasons.{bit_of}
+use Rattle.cmp_values.specs.declared.fail_info.FailInfo.{FailInfo}
+use Rattle.cmp_values.specs.Reasons.{bit_of}
 
 -- The string of bits that ends with this one, and has no other one. Bits are counted from the highest of the first octet
 -- (X.690, 8.6.2.1 and 11.2.2).

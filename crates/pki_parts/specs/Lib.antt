@@ -1,4 +1,5 @@
 pub mod CertRep
+pub mod Certificates
 pub mod Confirmation
 pub mod Error
 pub mod FailInfo

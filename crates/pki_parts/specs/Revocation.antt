@@ -1,16 +1,16 @@
 -- Requests to revoke (RFC 9810, 5.3.9).
-use Rattle.std.specs.Prelude.{ℕ, ◌++◌, ◌==◌, if◌then◌else◌, List, length, Option, Some, None, option_map}
+use Rattle.std.specs.Prelude.{ℕ, ◌++◌, ◌==◌, if◌then◌else◌, List, [], ◌∷◌, length, Option, Some, None, option_map}
 use Rattle.der_base.specs.Element.{element}
 use Rattle.der_base.specs.Reading.{Part}
 use Rattle.asn_fields.specs.Fields.{◌>>=◌, optional_with}
 use Rattle.asn_fields.specs.Forms.{optional_spelling, FitsOptional}
-use Rattle.asn_fields.specs.Rows.{RowForm}
+use Rattle.asn_fields.specs.Rows.{RowForm, row_of}
 use Rattle.asn_types.specs.Extension.{is_extensions}
 use Rattle.asn_types.specs.Template.{TemplateForm, FitsTemplate, Passes, same, template_content, template_of, extensions_of, tested_at, template_at}
 use Rattle.asn_parts.specs.Number.{number_octets}
 use Rattle.asn_parts.specs.Parts.{FitsTagged, required_with}
-use Rattle.pki_parts.specs.Lists.{IsList, list_at}
-use Rattle.pki_parts.specs.Reason.{reason_extension}
+use Rattle.pki_parts.specs.Lists.{IsList, IsOne, list_at}
+use Rattle.pki_parts.specs.Reason.{IsReasonOf, reason_extension}
 use Rattle.pki_parts.specs.declared.revocation.RevEntry.{RevEntry}
 use Rattle.pki_parts.specs.declared.revocation.RevReq.{RevReq}
 
@@ -71,3 +71,9 @@ rev_template issuer serial = record {
 
 abbrev pub rev_details : List ℕ → ℕ → ℕ → RevForm
 rev_details issuer serial reason = record { template = rev_template issuer serial; exts = Some (reason_extension reason) }
+
+-- The octets are a request to revoke one certificate, and the extensions in it give this reason.
+pub record GivesReason (octets : List ℕ) (reason : ℕ) : Type 0 where
+  pub details : RevForm
+  pub one : IsOne (λ p. IsRevReq p (row_of (details ∷ []))) octets
+  pub given : IsReasonOf details.exts reason

@@ -9,10 +9,10 @@ use Rattle.asn_fields.specs.Forms.{optional_spelling, FitsOptional}
 use Rattle.asn_types.specs.Template.{Passes, same, tested_at}
 use Rattle.asn_parts.specs.Number.{number_octets}
 use Rattle.asn_parts.specs.Parts.{FitsTagged, required_with}
-use Rattle.cmp_ports.specs.Reasons.{bit_of}
+use Rattle.cmp_values.specs.Reasons.{bit_of}
 use Rattle.pki_parts.specs.FailInfo.{bits_to}
 use Rattle.pki_parts.specs.Texts.{IsTexts, are_texts}
-use Rattle.cmp_ports.specs.declared.fail_info.FailInfo.{FailInfo}
+use Rattle.cmp_values.specs.declared.fail_info.FailInfo.{FailInfo}
 use Rattle.pki_parts.specs.declared.status.StatusInfo.{StatusInfo}
 
 -- what stands in it: the content of status, that of statusString, and failInfo

@@ -6,14 +6,16 @@ ghost use Rattle.der_base.specs.Reading.{part_of};
 ghost use Rattle.asn_fields.specs.Fields.{Gives, optional_with};
 ghost use Rattle.asn_types.specs.Template.{tested_at, anything_at};
 ghost use Rattle.asn_parts.specs.Parts.{required_with, sole_with};
+ghost use Rattle.pki_parts.specs.Certificates.{are_certificates};
 ghost use Rattle.pki_parts.specs.Status.{StatusForm, option_size};
 
+use crate::certificates::{are_certificates, are_elements};
 use crate::identifier::put_id;
 use crate::status::{StatusInfo, status_field};
 use asn_fields::{BadForm, Entry, Row, field, optional, read_row, sole};
 use asn_parts::integer_field;
-use cmp_ports::Octets;
-use der_base::{Element, Items, Writer, whole};
+use cmp_values::Octets;
+use der_base::{Element, Writer, whole};
 use std::alloc::{AllocError, Global};
 
 /// A whole certificate, or a whole element that is an encrypted one (CertOrEncCert).
@@ -58,23 +60,7 @@ pub struct CertRep<'a> {
     pub first: Option<CertResponse<'a>>,
 }
 
-ghost use Rattle.pki_parts.specs.CertRep.{CertForm, ResponseForm, RepForm, IsCertRep, IsWritten, cert_of, pair_of, response_of, shown_by, rep_of, shown_of, are_certificates, certificate_at, any_alone_at, cert_front_at, pair_at, response_at, rep_at, ca_pubs_spelling, pair_octets, response_octets, rep_octets, written_rep};
-
-/// Whether a content is a row of certificates.
-#[tactic(auto, unfolding(crate::specs::CertRep::are_certificates))]
-fn are_certificates(content: &[u8]) -> bool
-    ensures { result ≡ are_certificates content.now }
-{
-    for item in Items::new(content) {
-        let Ok(p) = item else {
-            return false;
-        };
-        if p.tag != 0x30 {
-            return false;
-        }
-    }
-    true
-}
+ghost use Rattle.pki_parts.specs.CertRep.{CertForm, ResponseForm, RepForm, IsCertRep, IsWritten, cert_of, pair_of, response_of, shown_by, rep_of, shown_of, certificate_at, any_alone_at, cert_front_at, pair_at, response_at, rep_at, ca_pubs_spelling, pair_octets, response_octets, rep_octets, written_rep};
 
 /// A row of certificates, which stands alone in its SEQUENCE.
 #[tactic(auto, unfolding(asn_types::specs::Template::tested_at))]
@@ -103,13 +89,17 @@ fn ca_pubs_field(bytes: &[u8]) -> Result<(Option<&[u8]>, &[u8]), BadForm>
     }
 }
 
-/// The one SEQUENCE that the octets are.
+/// The one certificate that the octets are.
 #[tactic(auto, unfolding(crate::specs::CertRep::certificate_at))]
 fn certificate_alone(bytes: &[u8]) -> Result<&[u8], BadForm>
     ensures { Gives (λ octets. octets.now) result (certificate_at bytes.now) }
 {
     let sequence = sole(0x30, bytes)?;
-    Ok(sequence.whole)
+    if are_elements(sequence.content) {
+        Ok(sequence.whole)
+    } else {
+        Err(BadForm)
+    }
 }
 
 /// A certificate in the tag 0 where this stands at the front, and the octets behind it.

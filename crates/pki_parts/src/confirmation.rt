@@ -16,7 +16,7 @@ use crate::status::{StatusInfo, status_inside};
 use asn_fields::{BadForm, Entry, Row, field, optional, sole};
 use asn_parts::{integer_field, number};
 use asn_types::{AlgorithmId, read_alg_content};
-use cmp_ports::Octets;
+use cmp_values::Octets;
 use der_base::{Element, Writer};
 use std::alloc::{AllocError, Global};
 

@@ -11,7 +11,7 @@ use crate::status::{StatusInfo, status_field};
 use crate::texts::texts_field;
 use asn_fields::{BadForm, optional};
 use asn_parts::integer_inside;
-use cmp_ports::Octets;
+use cmp_values::Octets;
 use der_base::{Element, Writer};
 use std::alloc::{AllocError, Global};
 

@@ -1,11 +1,11 @@
 //! The reasons in a failInfo.
 ghost use Rattle.std.specs.Prelude.{◌≡◌, ◌↔◌, Some, IsTrue};
 ghost use Rattle.der_base.specs.Values.{bit_string_of};
-ghost use Rattle.cmp_ports.specs.declared.fail_info.FailInfo.{FailInfo};
-ghost use Rattle.cmp_ports.specs.Reasons.{bit_of};
+ghost use Rattle.cmp_values.specs.declared.fail_info.FailInfo.{FailInfo};
+ghost use Rattle.cmp_values.specs.Reasons.{bit_of};
 ghost use Rattle.pki_parts.specs.FailInfo.{is_set, IsFirst};
 
-use cmp_ports::FailInfo;
+use cmp_values::FailInfo;
 use der_base::Bits;
 
 /// The reason of the lowest bit that is set and has a name. `None` where no such bit is set.

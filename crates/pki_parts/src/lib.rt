@@ -2,6 +2,7 @@
 #![tactic(auto)]
 
 mod cert_rep;
+mod certificates;
 mod confirmation;
 mod error;
 mod fail_info;
@@ -16,6 +17,7 @@ mod texts;
 
 pub use asn_fields::BadForm;
 pub use cert_rep::{CertRep, CertResponse, read_cert_rep, write_cert_rep};
+pub use certificates::are_certificates;
 pub use confirmation::{CertConfirm, CertStatus, read_confirm, write_confirm};
 pub use error::{ErrorMsg, read_error, write_error};
 pub use fail_info::first_reason;

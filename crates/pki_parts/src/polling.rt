@@ -13,7 +13,7 @@ use crate::list::read_list;
 use crate::texts::texts_field;
 use asn_fields::{BadForm, Entry, Row, sole};
 use asn_parts::{integer_field, integer_inside, number};
-use cmp_ports::Octets;
+use cmp_values::Octets;
 use der_base::{Element, Writer};
 use std::alloc::{AllocError, Global};
 

@@ -8,14 +8,14 @@ ghost use Rattle.asn_types.specs.Extension.{is_extensions};
 ghost use Rattle.asn_types.specs.Template.{TemplateForm, IsWholeName, template_of, template_at, tested_at, extensions_of};
 ghost use Rattle.asn_parts.specs.Parts.{required_with};
 ghost use Rattle.pki_parts.specs.Lists.{IsOne};
-ghost use Rattle.pki_parts.specs.Reason.{IsReason, IsReasonOf, reason_extension};
+ghost use Rattle.pki_parts.specs.Reason.{IsReason, reason_extension};
 
 use crate::list::read_list;
 use crate::reason::put_reason;
 use asn_fields::{BadForm, Entry, Row, field, optional};
 use asn_parts::number;
 use asn_types::{Extensions, Template, read_extensions, read_template};
-use cmp_ports::Octets;
+use cmp_values::Octets;
 use der_base::{Element, Writer};
 use std::alloc::{AllocError, Global};
 
@@ -34,7 +34,7 @@ pub struct RevReq<'a> {
     pub first: Option<RevEntry<'a>>,
 }
 
-ghost use Rattle.pki_parts.specs.Revocation.{RevForm, IsRevReq, rev_of, rev_req_of, rev_at, rev_req_at, rev_template_octets, rev_req_octets, rev_details};
+ghost use Rattle.pki_parts.specs.Revocation.{RevForm, IsRevReq, GivesReason, rev_of, rev_req_of, rev_at, rev_req_at, rev_template_octets, rev_req_octets, rev_details};
 
 /// A template at the front, and the octets behind it.
 fn template_field(bytes: &[u8]) -> Result<(Template<'_>, &[u8]), BadForm>
@@ -168,8 +168,8 @@ pub fn write_rev_req(
     ensures size { IfOk result (λ octets. length octets ≤ length issuer.now + 128) }
     // What is written is read again.
     ensures again { IsWholeName issuer.now → IfOk result (IsOne (λ p. IsRevReq p (row_of (rev_details issuer.now serial reason ∷ [])))) }
-    // And so is the reason.
-    ensures reason { IsReason reason → IsReasonOf (Some (reason_extension reason)) reason }
+    // And the extensions that are read give the reason.
+    ensures reason { IsWholeName issuer.now → IsReason reason → IfOk result (λ octets. GivesReason octets reason) }
 {
     rev_req_written(alloc, issuer, serial, reason)
 }

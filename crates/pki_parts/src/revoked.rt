@@ -10,7 +10,7 @@ ghost use Rattle.pki_parts.specs.Status.{StatusForm, FitsStatus, status_content,
 
 use crate::status::StatusInfo;
 use asn_fields::{BadForm, Row, field, optional, read_row};
-use cmp_ports::Octets;
+use cmp_values::Octets;
 use der_base::{Element, Writer, whole};
 use std::alloc::{AllocError, Global};
 

@@ -11,7 +11,7 @@ ghost use Rattle.asn_parts.specs.Parts.{required_with};
 use crate::texts::texts_field;
 use asn_fields::{BadForm, Entry, field, optional};
 use asn_parts::{integer_field, number};
-use cmp_ports::{FailInfo, Octets};
+use cmp_values::{FailInfo, Octets};
 use der_base::{Bits, Element, Writer, bits};
 use std::alloc::{AllocError, Global};
 

@@ -1,16 +1,16 @@
 -- Messages that are protected as a caller asks.
-use Rattle.std.specs.Prelude.{◌≡◌, ℕ, ◌+◌, ◌<◌, ◌≤◌, IfSome, List, Option, Some, None, option_map}
+use Rattle.std.specs.Prelude.{◌≡◌, ℕ, ◌+◌, ◌^◌, ◌<◌, ◌≤◌, IfSome, length, List, Option, Some, None, option_map}
 use Rattle.der_base.specs.Element.{element, IsElement}
 use Rattle.pbmac.specs.Mac.{mac_of}
-use Rattle.pki_header.specs.Plan.{IsPlanned}
+use Rattle.pki_header.specs.Plan.{IsPlanned, FitsPlan, Says}
 use Rattle.pki_header.specs.declared.plan.HeaderPlan.{HeaderPlan}
 use Rattle.pki_message.specs.Body.{BodyForm, IsInside, tag_of}
-use Rattle.pki_message.specs.Frame.{protected_part}
-use Rattle.pki_message.specs.Message.{MessageForm, IsMessage}
+use Rattle.pki_message.specs.Frame.{message_limit, protected_part}
+use Rattle.pki_message.specs.Message.{MessageForm, IsExtraCerts, IsMessage}
 use Rattle.pki_message.specs.Written.{written_content}
-use Rattle.asn_types.specs.Algorithm.{Algorithm}
+use Rattle.asn_types.specs.Algorithm.{Algorithm, FitsAlgorithm, algorithm_content}
 use Rattle.protect.specs.Algorithms.{hss_lms, mac_algorithm, algorithm_octets}
-use Rattle.protect.specs.Holds.{ProtectionHolds}
+use Rattle.protect.specs.Holds.{HoldsOver, ProtectionHolds}
 use Rattle.protect.specs.declared.key.Key.{Key}
 use Rattle.protect.specs.declared.key.Key.TheVariants as keys
 use Rattle.protect.specs.declared.how.How.{How}
@@ -46,12 +46,32 @@ pub record IsWholeBody (b : BodyForm) (octets : List ℕ) : Type 0 where
   pub alone : IsElement octets (0xA0 + tag_of b) inside
   pub form : IsInside b inside
 
--- The octets are read as a message with this body, whose protection holds under the key, where there is one.
-pub record IsReadBack (key : Option Key) (b : BodyForm) (octets : List ℕ) : Type 0 where
+-- The octets are read as a message whose header says what the plan does, with this algorithm, whose time, body and certificate
+-- are these, and whose protection holds under the key, where there is one.
+pub record IsReadBack (plan : HeaderPlan) (alg : Option Algorithm) (cert : Option (List ℕ)) (key : Option Key) (b : BodyForm) (octets : List ℕ) : Type 0 where
   pub form : MessageForm
+  pub says : Says (with_algorithm plan (option_map algorithm_octets alg)) form.head.time form.head
+  pub time : form.time ≡ plan.time
   pub body : form.body ≡ b
+  pub extra : form.extra ≡ cert
   pub message : IsMessage octets form
   pub holds : IfSome key (λ k. ProtectionHolds k form)
+
+-- An algorithm, where there is one, has the form of its type.
+abbrev pub FitsAlgorithmOrNone : Option Algorithm → Type 0
+FitsAlgorithmOrNone alg = IfSome alg (λ a. FitsAlgorithm a × (length (algorithm_content a) < 2 ^ 32))
+
+-- The protection of these parts holds under the key, where there is one.
+abbrev pub HoldsFor : Option Key → Option Algorithm → Option (List ℕ) → List ℕ → Type 0
+HoldsFor key alg protection part = IfSome key (λ k. HoldsOver k alg protection part)
+
+-- Each message that is protected as asked, of parts that have the forms of their types, is read back as such a message, where its
+-- protection holds and it is within the limit.
+abbrev pub ProtectedIsReadBack : Type 0
+ProtectedIsReadBack = (plan : HeaderPlan) (body : List ℕ) (alg : Option Algorithm) (protect : List ℕ → Option (List ℕ)) (cert : Option (List ℕ)) (key : Option Key) (b : BodyForm) (octets : List ℕ)
+    → (is : IsProtected plan body alg protect cert octets) → FitsPlan plan → FitsAlgorithmOrNone alg → IsWholeBody b body → IfSome cert IsExtraCerts
+    → HoldsFor key alg (protect (protected_part is.header body)) (protected_part is.header body)
+    → length octets ≤ message_limit → IsReadBack plan alg cert key b octets
 
 module _ {L : Type 0} where
   -- the algorithm of a protection

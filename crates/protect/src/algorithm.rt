@@ -7,7 +7,7 @@ ghost use Rattle.protect.specs.Algorithms.{hss_lms, hmac_algorithm, mac_algorith
 
 use asn_parts::number;
 use asn_types::{HMAC_SHA256, HSS_LMS, PBKDF2, PBMAC1, write_alg};
-use cmp_ports::Octets;
+use cmp_values::Octets;
 use der_base::Writer;
 use std::alloc::{AllocError, Global};
 

@@ -11,7 +11,7 @@ ghost use Rattle.protect.specs.Holds.{IsMacAlgorithm, IsMacked, HasOther, HoldsO
 use crate::fault::CheckFault;
 use crate::key::Key;
 use asn_types::{AlgorithmId, HSS_LMS};
-use cmp_ports::{Octets, Short};
+use cmp_values::{Octets, Short};
 use hss_sig::hss_ok;
 use pbmac::{MacParams, mac_ok, read_params};
 use pbmac_grammar::{params_are_one, params_are_spelled};

@@ -1,5 +1,6 @@
 //! Why a protection was not checked.
-ghost use Rattle.std.specs.Prelude.{◌≡◌};
+ghost use Rattle.std.specs.Prelude.{◌≡◌, Some};
+ghost use Rattle.protect.specs.Faults.{fault_text};
 ghost use Rattle.protect.specs.declared.fault.CheckFault.TheVariants.{NoMemory};
 
 use std::alloc::AllocError;
@@ -24,11 +25,13 @@ impl From<AllocError> for CheckFault {
 }
 
 impl fmt::Display for CheckFault {
+    ghost output = { λ fault. Some (fault_text fault) };
+
     fn fmt<W: fmt::Write>(&self, f: &mut fmt::Formatter<W>) -> fmt::Result {
-        f.write_str(match self {
-            CheckFault::BadAlg => "the algorithm is not the key's",
-            CheckFault::NoMemory => "memory ran out",
-        })
+        match self {
+            CheckFault::BadAlg => f.write_str("the algorithm is not the key's"),
+            CheckFault::NoMemory => f.write_str("memory ran out"),
+        }
     }
 }
 

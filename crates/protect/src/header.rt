@@ -3,7 +3,7 @@ ghost use Rattle.std.specs.Prelude.{◌≡◌, ℕ, ◌+◌, ◌^◌, ◌<◌, �
 ghost use Rattle.pki_header.specs.Plan.{IsPlanned, FitsPlan, IsHeaderOf, field_size, plan_size};
 ghost use Rattle.protect.specs.Written.{with_algorithm};
 
-use cmp_ports::Octets;
+use cmp_values::Octets;
 use pki_header::{HeaderPlan, write_header};
 use std::alloc::{AllocError, Global};
 

@@ -1,6 +1,6 @@
 //! How messages are protected.
 
-use cmp_ports::Short;
+use cmp_values::Short;
 
 /// How a message is protected: not at all, by the MAC of a secret with a salt and a count of rounds, or by a leaf of a signer.
 #[derive(Clone, Copy)]

@@ -10,11 +10,13 @@ mod key;
 mod laws;
 #[cfg(test)]
 mod tests;
+mod unsigned;
 mod write;
 
 pub use check::protection_ok;
 pub use fault::CheckFault;
 pub use how::How;
 pub use key::Key;
-pub use laws::messages_are_checked;
+pub use laws::{messages_are_checked, protected_is_read_back};
+pub use unsigned::{Unsigned, to_sign, with_sig};
 pub use write::protect_with;

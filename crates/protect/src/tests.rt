@@ -5,7 +5,7 @@ ghost use Rattle.pki_header.specs.Plan.{field_size, plan_size};
 ghost use Rattle.protect.specs.Written.{IsUsable};
 
 use crate::{CheckFault, How, Key, messages_are_checked, protect_with, protection_ok};
-use cmp_ports::{Octets, Short};
+use cmp_values::{Octets, Short};
 use hss_sig::{LeafSigner, OneLevel};
 use lms_tree::Set;
 use pki_header::HeaderPlan;

@@ -1,20 +1,22 @@
 //! Writing messages that are protected.
-ghost use Rattle.std.specs.Prelude.{◌≡◌, ℕ, ◌+◌, ◌^◌, ◌<◌, ◌≤◌, length, Some, None, IfOk, IfSome};
+ghost use Rattle.std.specs.Prelude.{◌≡◌, ℕ, ◌+◌, ◌^◌, ◌<◌, ◌≤◌, List, length, Some, None, IfOk, IfSome};
 ghost use Rattle.std.specs.Option.{option_copied};
 ghost use Rattle.hss_sig.specs.Hss.{HssOk};
 ghost use Rattle.pbmac.specs.Mac.{mac_of};
 ghost use Rattle.pki_header.specs.Plan.{FitsPlan, plan_size};
 ghost use Rattle.pki_parts.specs.Status.{option_size};
-ghost use Rattle.pki_message.specs.Body.{BodyForm, IsSequences};
+ghost use Rattle.pki_message.specs.Body.{BodyForm};
 ghost use Rattle.pki_message.specs.Frame.{message_limit};
+ghost use Rattle.pki_message.specs.Message.{IsExtraCerts};
 ghost use Rattle.protect.specs.Algorithms.{hss_lms, mac_algorithm};
 ghost use Rattle.protect.specs.Written.{IsProtected, IsWholeBody, IsReadBack, algorithm_for, protection_for, key_for, IsUsable, IsAccepted};
 ghost use Rattle.protect.specs.declared.key.Key.TheVariants as keys;
 
-use crate::algorithm::{hss_lms, mac_algorithm};
+use crate::algorithm::mac_algorithm;
 use crate::header::header_with;
 use crate::how::How;
-use cmp_ports::{Octets, Short};
+use crate::unsigned::{to_sign, with_sig};
+use cmp_values::{Octets, Short};
 use hss_sig::LeafSigner;
 use pbmac::{MacParams, make_mac};
 use pki_header::HeaderPlan;
@@ -31,8 +33,9 @@ fn unprotected(
     requires time { IfSome plan.now.time (λ t. t ≤ 253_402_300_799) }
     requires counted { plan_size plan.now + length body.now + option_size (option_copied extra) + 2 ^ 17 < 2 ^ 32 }
     ensures made { IfOk result (IsProtected plan.now body.now None (λ part. None) (option_copied extra.entry)) }
-    ensures again { FitsPlan plan.now → (b : BodyForm) → IsWholeBody b body.now → IfSome (option_copied extra.entry) IsSequences
-        → IfOk result (λ octets. length octets ≤ message_limit → IsReadBack None b octets) }
+    ensures size { IfOk result (λ octets. length octets ≤ plan_size plan.now + length body.now + option_size (option_copied extra.entry) + 576) }
+    ensures again { FitsPlan plan.now → (b : BodyForm) → IsWholeBody b body.now → IfSome (option_copied extra.entry) IsExtraCerts
+        → IfOk result (λ octets. length octets ≤ message_limit → IsReadBack plan.now None (option_copied extra.entry) None b octets) }
 {
     let header = header_with(alloc, plan, None)?;
     write_message(alloc, header.as_slice(), body, None, extra)
@@ -63,8 +66,10 @@ fn with_mac(
     requires rounds { 1 ≤ rounds }
     ensures made { IfOk result (IsProtected plan.now body.now (Some (mac_algorithm salt.now rounds))
         (λ part. Some (mac_of secret.now (record { salt = salt.now; rounds = rounds }) part)) (option_copied extra.entry)) }
-    ensures again { FitsPlan plan.now → rounds ≤ 200000 → (b : BodyForm) → IsWholeBody b body.now → IfSome (option_copied extra.entry) IsSequences
-        → IfOk result (λ octets. length octets ≤ message_limit → IsReadBack (Some (keys.Mac secret.now)) b octets) }
+    ensures size { (n : ℕ) → ((part : List ℕ) → length (mac_of secret.now (record { salt = salt.now; rounds = rounds }) part) ≤ n)
+        → IfOk result (λ octets. length octets ≤ plan_size plan.now + length body.now + n + option_size (option_copied extra.entry) + 576) }
+    ensures again { FitsPlan plan.now → rounds ≤ 200000 → (b : BodyForm) → IsWholeBody b body.now → IfSome (option_copied extra.entry) IsExtraCerts
+        → IfOk result (λ octets. length octets ≤ message_limit → IsReadBack plan.now (Some (mac_algorithm salt.now rounds)) (option_copied extra.entry) (Some (keys.Mac secret.now)) b octets) }
 {
     let alg = mac_algorithm(alloc, salt, rounds)?;
     let header = header_with(alloc, plan, Some(alg))?;
@@ -97,14 +102,14 @@ fn with_signature<L: LeafSigner>(
     requires counted { plan_size plan.now + length body.now + option_size (option_copied extra) + 2 ^ 17 < 2 ^ 32 }
     requires below { leaf < L.count signer.now }
     ensures made { IfOk result (IsProtected plan.now body.now (Some hss_lms) (λ part. Some (L.signature signer.now leaf part)) (option_copied extra.entry)) }
-    ensures again { FitsPlan plan.now → (b : BodyForm) → IsWholeBody b body.now → IfSome (option_copied extra.entry) IsSequences
-        → IfOk result (λ octets. length octets ≤ message_limit → IsReadBack (Some (keys.Lms (L.key signer.now))) b octets) }
+    ensures size { (n : ℕ) → ((part : List ℕ) → length (L.signature signer.now leaf part) ≤ n)
+        → IfOk result (λ octets. length octets ≤ plan_size plan.now + length body.now + n + option_size (option_copied extra.entry) + 576) }
+    ensures again { FitsPlan plan.now → (b : BodyForm) → IsWholeBody b body.now → IfSome (option_copied extra.entry) IsExtraCerts
+        → IfOk result (λ octets. length octets ≤ message_limit → IsReadBack plan.now (Some hss_lms) (option_copied extra.entry) (Some (keys.Lms (L.key signer.now))) b octets) }
 {
-    let alg = hss_lms(alloc)?;
-    let header = header_with(alloc, plan, Some(alg))?;
-    let part = protected_part(alloc, header.as_slice(), body)?;
-    let sig = signed(signer, leaf, part.as_slice())?;
-    write_message(alloc, header.as_slice(), body, Some(sig.as_slice()), extra)
+    let unsigned = to_sign(alloc, plan, body)?;
+    let sig = signed(signer, leaf, unsigned.part.as_slice())?;
+    with_sig(alloc, &unsigned, body, sig.as_slice(), extra)
 }
 
 /// Writes a message (RFC 9810, 5.1) of a header's plan, a whole body and the one certificate of extraCerts, where there is one,
@@ -121,10 +126,13 @@ pub fn protect_with<L: LeafSigner>(
     requires usable { IsUsable L.count how.now }
     // The message is the one that was asked for.
     ensures made { IfOk result (IsProtected header.now body.now (algorithm_for how.now) (protection_for L.signature how.now) (option_copied extra.entry)) }
-    // What is written of parts that have the forms of their types is read as a message again, and its protection holds: under the
-    // same secret, or under the signer's public key.
-    ensures again { FitsPlan header.now → IsAccepted how.now → (b : BodyForm) → IsWholeBody b body.now → IfSome (option_copied extra.entry) IsSequences
-        → IfOk result (λ octets. length octets ≤ message_limit → IsReadBack (key_for L.key how.now) b octets) }
+    // It has at most 576 octets more than the fields, the body, the certificate and the protection.
+    ensures size { (n : ℕ) → ((part : List ℕ) → option_size (protection_for L.signature how.now part) ≤ n)
+        → IfOk result (λ octets. length octets ≤ plan_size header.now + length body.now + n + option_size (option_copied extra.entry) + 576) }
+    // What is written of parts that have the forms of their types is read as a message again, whose header says what the plan does,
+    // and its protection holds: under the same secret, or under the signer's public key.
+    ensures again { FitsPlan header.now → IsAccepted how.now → (b : BodyForm) → IsWholeBody b body.now → IfSome (option_copied extra.entry) IsExtraCerts
+        → IfOk result (λ octets. length octets ≤ message_limit → IsReadBack header.now (algorithm_for how.now) (option_copied extra.entry) (key_for L.key how.now) b octets) }
 {
     match how {
         How::Nothing => unprotected(alloc, header, body, extra),

@@ -1,29 +1,13 @@
 -- Fields of requests are read exactly where they are spelled.
-use Rattle.std.proofs.Common.{◌≡◌, ◌≢◌, ℕ, ◌+◌, ◌%◌, ◌^◌, ◌<◌, ◌++◌, Bool, true, false, cond, eqb, IsTrue, List, [], ◌∷◌, length, Option, Some, None, append-nil, eqb-true, refl, sym, ap, subst, ◌∙◌, arith}
+use Rattle.std.proofs.Common.{◌≡◌, ℕ, ◌^◌, ◌<◌, List, [], ◌∷◌, length, Option, Some, append-nil, refl, ap, subst, ◌∙◌, arith}
 use Rattle.der_base.specs.Element.{element, IsElement}
-use Rattle.der_base.specs.Reading.{Part, part}
-use Rattle.asn_fields.specs.Fields.{◌>>=◌, sole_at, optional_at, inside_with, optional_with}
-use Rattle.asn_fields.specs.Forms.{IsRead, IsFront, optional_spelling, FitsOptional}
-use Rattle.asn_fields.proofs.FieldLemmas.{IsTagged, bound, passed, some_same, none_some, field_takes, field_again, sole_takes, sole_reads}
+use Rattle.der_base.specs.Reading.{Part}
+use Rattle.asn_fields.specs.Fields.{◌>>=◌, sole_at}
+use Rattle.asn_fields.specs.Forms.{IsRead}
+use Rattle.asn_fields.proofs.FieldLemmas.{IsTagged, bound, sole_takes, sole_reads}
 use Rattle.asn_types.specs.Key.{plain_bits_at}
 use Rattle.asn_types.proofs.ValueLemmas.{plain_bits_takes, plain_bits_again}
-use Rattle.asn_types.proofs.OptionalLemmas.{IsNotAt, optional_there, optional_not}
 use Rattle.req_forms.specs.Possession.{signature_element, FitsSignature, sole_signature_at}
-
--- a list of no length is empty
-pub empty_of : (l : List ℕ) → eqb (length l) 0 ≡ true → l ≡ []
-empty_of [] h = refl
-empty_of (x ∷ l) h = absurd (omega (arith, eqb-true (length (x ∷ l)) 0 h))
-
--- a field that may be left out is read where another tag follows
-pub field_not : {X : Type 0} (inner : List ℕ → Option X) (tag : ℕ) (spelling : X → List ℕ) (Fits : X → Type 0) → tag % 32 ≢ 31 → IsRead inner spelling Fits → (o : Option X) (rest : List ℕ) → FitsOptional spelling Fits o → IsNotAt tag rest → optional_with inner tag (optional_spelling tag spelling o ++ rest) ≡ Some (o, rest)
-field_not inner tag spelling Fits low law None rest fits h = rw (optional_not tag rest h) refl
-field_not inner tag spelling Fits low law (Some x) rest fits h = rw (optional_there tag (spelling x) rest low fits.1, law.again x fits.0) refl
-
--- where nothing follows
-pub field_last : {X : Type 0} (inner : List ℕ → Option X) (tag : ℕ) (spelling : X → List ℕ) (Fits : X → Type 0) → tag % 32 ≢ 31 → IsRead inner spelling Fits → (o : Option X) → FitsOptional spelling Fits o → optional_with inner tag (optional_spelling tag spelling o) ≡ Some (o, [])
-field_last inner tag spelling Fits low law o fits =
-    ap (optional_with inner tag) (sym (append-nil (optional_spelling tag spelling o))) ∙ field_not inner tag spelling Fits low law o [] fits tt
 
 -- a signature that stands alone
 signature_by : (bytes octets : List ℕ) (p : Part) → IsTagged 0x03 bytes p [] → p.content ≡ 0 ∷ octets → FitsSignature octets × (bytes ≡ signature_element octets)

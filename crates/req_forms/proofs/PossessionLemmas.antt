@@ -13,10 +13,10 @@ use Rattle.asn_types.proofs.AlgorithmLemmas.{algorithm_is_read}
 use Rattle.asn_types.proofs.OptionalLemmas.{IsNotAt}
 use Rattle.asn_types.proofs.ValueLemmas.{ok_is}
 use Rattle.asn_parts.specs.Parts.{tagged, FitsTagged, required_with}
-use Rattle.asn_parts.proofs.PartLemmas.{anything_is_read, required_front}
+use Rattle.asn_parts.proofs.PartLemmas.{anything_is_read, required_front, empty_of, field_not}
 use Rattle.asn_fields.specs.Forms.{IsFront}
 use Rattle.req_forms.specs.Possession.{SigningForm, signing_content, FitsSigning, ProofForm, absent, ra_verified, signature, key_encipherment, key_agreement, proof_spelling, FitsProof, signature_element, sole_signature_at, signing_at, proof_at, is_proof_tag, proof_front_at}
-use Rattle.req_forms.proofs.FieldLemmas.{empty_of, field_not, signature_is_read}
+use Rattle.req_forms.proofs.FieldLemmas.{signature_is_read}
 
 pub alg_front : IsFront (required_with algorithm_at 0x30) (tagged 0x30 algorithm_content) (FitsTagged algorithm_content FitsAlgorithm)
 alg_front = required_front algorithm_at 0x30 algorithm_content FitsAlgorithm (omega arith) algorithm_is_read

@@ -13,12 +13,11 @@ use Rattle.asn_fields.proofs.RowLemmas.{row_takes, row_again}
 use Rattle.asn_types.specs.Template.{FitsTemplate, Passes, same, template_content, tested_at, template_at}
 use Rattle.asn_types.proofs.TemplateLemmas.{template_is_read}
 use Rattle.asn_parts.specs.Parts.{tagged, FitsTagged, required_with}
-use Rattle.asn_parts.proofs.PartLemmas.{tested_is_read, required_front}
+use Rattle.asn_parts.proofs.PartLemmas.{tested_is_read, required_front, empty_of, field_last}
 use Rattle.req_forms.specs.Controls.{IsControls, controls_content, controls_at}
 use Rattle.req_forms.specs.Possession.{ProofForm, proof_spelling, proof_front_at}
 use Rattle.req_forms.specs.Requests.{are_elements, RequestForm, request_content, FitsRequest, MessageForm, message_content, FitsMessage, ReqForm, shown_of, IsCrmf, list_of, request_at, request_front_at, message_at, shown_row, crmf_at}
 use Rattle.req_forms.specs.declared.requests.CrmfList.{CrmfList}
-use Rattle.req_forms.proofs.FieldLemmas.{empty_of, field_last}
 use Rattle.req_forms.proofs.ControlLemmas.{controls_are_read}
 use Rattle.req_forms.proofs.PossessionLemmas.{IsNoProof, front_takes, front_again}
 

@@ -8,7 +8,7 @@ use Rattle.asn_parts.proofs.NumberLemmas.{number_size}
 use Rattle.req_forms.specs.Controls.{old_cert_id}
 use Rattle.req_forms.specs.Possession.{signature_element}
 use Rattle.req_forms.specs.Attributes.{extension_request_id}
-use Rattle.req_forms.specs.Written.{hss_lms, hss_algorithm, retagged, template_extensions, template_octets, old_octets, control_octets, request_octets, proof_octets, crmf_octets, asked_octets, info_octets, p10_octets}
+use Rattle.req_forms.specs.Written.{hss_lms, hss_algorithm, retagged, template_extensions, template_octets, old_octets, control_octets, request_octets, proof_octets, around_octets, crmf_octets, asked_octets, info_octets, p10_octets}
 use Rattle.req_forms.specs.declared.wish.CrmfWish.{CrmfWish}
 use Rattle.req_forms.specs.declared.wish.Proof.{Proof}
 use Rattle.req_forms.specs.declared.wish.Proof.TheVariants as variant
@@ -41,6 +41,10 @@ request_size : (w : CrmfWish) → length (request_octets w) ≤ length w.subject
 request_size w =
     omega (arith, length-append (element 0x02 (0 ∷ [])) (element 0x30 (template_octets w.subject w.spki w.exts) ++ control_octets w.issuer w.old), length_element_le 0x02 (0 ∷ []), length-append (element 0x30 (template_octets w.subject w.spki w.exts)) (control_octets w.issuer w.old), length_element_le 0x30 (template_octets w.subject w.spki w.exts), template_size w.subject w.spki w.exts, control_size w.issuer w.old)
 
+-- What is written as a wish's request is at most so long.
+pub whole_request_size : (w : CrmfWish) → length (element 0x30 (request_octets w)) ≤ length w.subject + length w.spki + length w.exts + length w.issuer + 85
+whole_request_size w = omega (arith, length_element_le 0x30 (request_octets w), request_size w)
+
 pub hss_size : length hss_lms ≤ 11
 unfolding hss_lms
 hss_size = omega arith
@@ -56,6 +60,11 @@ signature_in (variant.Signature sig) = sig
 proof_size : (proof : Proof) → length (proof_octets proof) ≤ length (signature_in proof) + 36
 proof_size variant.RaVerified = omega (arith, length_element_le 0x80 [])
 proof_size (variant.Signature sig) = omega (arith, length_element_le 0xA1 (hss_algorithm ++ signature_element sig), signature_size sig)
+
+-- What is written around a request is at most so long.
+pub around_size : (request : List ℕ) (proof : Proof) → length (around_octets request proof) ≤ length request + length (signature_in proof) + 48
+around_size request proof =
+    omega (arith, length_element_le 0x30 (element 0x30 (request ++ proof_octets proof)), length_element_le 0x30 (request ++ proof_octets proof), length-append request (proof_octets proof), proof_size proof)
 
 -- What is written for a wish is at most so long.
 pub crmf_size : (w : CrmfWish) → length (crmf_octets w) ≤ length w.subject + length w.spki + length w.exts + length w.issuer + length (signature_in w.proof) + 140

@@ -9,9 +9,10 @@ use Rattle.asn_parts.specs.Parts.{FitsTagged}
 use Rattle.req_forms.specs.Possession.{signature_element}
 use Rattle.req_forms.specs.Attributes.{extension_request, extension_request_id, attribute_content, AttributesForm, IsAttributes}
 use Rattle.req_forms.specs.Pkcs10.{InfoForm, info_content, FitsInfo, P10Form, p10_content, IsP10}
-use Rattle.req_forms.specs.Written.{hss_lms, hss_algorithm, asked_octets, info_octets, p10_octets, IsWish, wished_exts, wished_info, written_p10}
+use Rattle.req_forms.specs.Written.{hss_lms, hss_algorithm, asked_octets, info_octets, p10_octets, IsAsked, wished_exts, wished_info, written_p10}
 use Rattle.req_forms.specs.declared.wish.CrmfWish.{CrmfWish}
-use Rattle.req_forms.proofs.WrittenLemmas.{back_fits, front_fits, inside_fits, hss_oid, hss_counted}
+use Rattle.asn_parts.proofs.PartLemmas.{back_fits, front_fits, inside_fits}
+use Rattle.req_forms.proofs.WrittenLemmas.{hss_oid, hss_counted}
 
 abbrev attributes_form : List ℕ → AttributesForm
 attributes_form exts = record { octets = asked_octets exts; exts = wished_exts exts }
@@ -34,11 +35,11 @@ asked_fits (b ∷ more) (inr t) counted =
       one = refl;
     }
 
-info_spelled : (w : CrmfWish) (key : Key) → IsWish w key → info_octets w ≡ element 0x30 (info_content (wished_info w key))
+info_spelled : (w : CrmfWish) (key : Key) → IsAsked w key → info_octets w ≡ element 0x30 (info_content (wished_info w key))
 info_spelled w key is = ap (λ (l : List ℕ). element 0x30 (element 0x02 (0 ∷ []) ++ (w.subject ++ (l ++ element 0xA0 (asked_octets w.exts))))) is.spki.spelled
 
 -- What is written for a wish is the info that it wishes.
-pub info_again : (w : CrmfWish) (key : Key) → IsWish w key → length (info_octets w) < 2 ^ 32 → IsElement (info_octets w) 0x30 (info_content (wished_info w key)) × FitsInfo (wished_info w key)
+pub info_again : (w : CrmfWish) (key : Key) → IsAsked w key → length (info_octets w) < 2 ^ 32 → IsElement (info_octets w) 0x30 (info_content (wished_info w key)) × FitsInfo (wished_info w key)
 info_again w key is counted =
     let spelled = info_spelled w key is in
     let inside : length (info_content (wished_info w key)) < 2 ^ 32 = inside_fits (2 ^ 32) 0x30 (info_content (wished_info w key)) (subst (λ (l : List ℕ). length l < 2 ^ 32) spelled counted) in
@@ -78,7 +79,7 @@ p10_again info i sig fits is counted =
       alone = record { low_tag = omega arith; counted = subst (λ (l : List ℕ). length l < 2 ^ 32) spelled inside; spelled = ap (element 0x30) spelled };
     }
 
-pub info_result : {E : Type 0} (r : Result (List ℕ) E) (w : CrmfWish) → length (info_octets w) < 2 ^ 32 → IfOk r (λ octets. octets ≡ info_octets w) → (key : Key) → IsWish w key → IfOk r (λ octets. IsElement octets 0x30 (info_content (wished_info w key)) × FitsInfo (wished_info w key))
+pub info_result : {E : Type 0} (r : Result (List ℕ) E) (w : CrmfWish) → length (info_octets w) < 2 ^ 32 → IfOk r (λ octets. octets ≡ info_octets w) → (key : Key) → IsAsked w key → IfOk r (λ octets. IsElement octets 0x30 (info_content (wished_info w key)) × FitsInfo (wished_info w key))
 info_result (Ok octets) w counted e key is = subst (λ (l : List ℕ). IsElement l 0x30 (info_content (wished_info w key)) × FitsInfo (wished_info w key)) (sym e) (info_again w key is counted)
 info_result (Err f) w counted e key is = tt
 

@@ -6,9 +6,9 @@ use Rattle.asn_types.specs.Extension.{is_extensions}
 use Rattle.asn_types.specs.Key.{Key, FitsKey, key_content}
 use Rattle.asn_types.specs.Template.{TemplateForm, IsWholeName}
 use Rattle.asn_parts.specs.Number.{number_octets}
-use Rattle.req_forms.specs.Controls.{OldCertForm, old_cert_id}
+use Rattle.req_forms.specs.Controls.{OldCertForm, ControlsForm, old_cert_id}
 use Rattle.req_forms.specs.Possession.{signature_element, SigningForm, PopoForm, by_ra, signed}
-use Rattle.req_forms.specs.Requests.{ReqForm}
+use Rattle.req_forms.specs.Requests.{RequestForm, ReqForm, old_in}
 use Rattle.req_forms.specs.Attributes.{extension_request_id}
 use Rattle.req_forms.specs.Pkcs10.{InfoForm, P10Form}
 use Rattle.req_forms.specs.declared.wish.CrmfWish.{CrmfWish}
@@ -54,9 +54,13 @@ abbrev pub proof_octets : Proof → List ℕ
 proof_octets variant.RaVerified = element 0x80 []
 proof_octets (variant.Signature sig) = element 0xA1 (hss_algorithm ++ signature_element sig)
 
--- CertReqMessages with this one request
+-- CertReqMessages with one message: a CertRequest as it stands, and its proof
+abbrev pub around_octets : List ℕ → Proof → List ℕ
+around_octets request proof = element 0x30 (element 0x30 (request ++ proof_octets proof))
+
+-- CertReqMessages with the one request of a wish
 abbrev pub crmf_octets : CrmfWish → List ℕ
-crmf_octets w = element 0x30 (element 0x30 (element 0x30 (request_octets w) ++ proof_octets w.proof))
+crmf_octets w = around_octets (element 0x30 (request_octets w)) w.proof
 
 -- the attributes: one extensionRequest, or none
 abbrev pub asked_octets : List ℕ → List ℕ
@@ -71,15 +75,17 @@ info_octets w = element 0x30 (element 0x02 (0 ∷ []) ++ (w.subject ++ (w.spki +
 abbrev pub p10_octets : List ℕ → List ℕ → List ℕ
 p10_octets info sig = element 0x30 (info ++ (hss_algorithm ++ signature_element sig))
 
--- What a wish says, where its parts have the forms of their types: the names, the key, the extensions, and a serial number of at
--- most 64 bits.
-pub record IsWish (w : CrmfWish) (key : Key) : Type 0 where
+-- What a wish asks for, where its parts have the forms of their types: the subject, a name, the key, and the extensions.
+pub record IsAsked (w : CrmfWish) (key : Key) : Type 0 where
   pub subject : IsWholeName w.subject
   pub key_fits : FitsKey key
   pub spki : IsElement w.spki 0x30 (key_content key)
   pub exts : (w.exts ≡ []) ⊎ IsTrue (is_extensions w.exts)
-  pub issuer : IsWholeName w.issuer
-  pub serial : IfSome w.old (λ n. n < 2 ^ 64)
+
+-- And the certificate that it updates, where it names one, has a name as its issuer and a serial number of at most 64 bits.
+pub record IsWish (w : CrmfWish) (key : Key) : Type 0 where
+  pub asked : IsAsked w key
+  pub old : IfSome w.old (λ n. IsWholeName w.issuer × (n < 2 ^ 64))
 
 -- what is read again: the extensions
 abbrev pub wished_exts : List ℕ → Option (List ℕ)
@@ -102,9 +108,20 @@ wished_template w key = record {
 }
 
 -- the certificate that is updated
-abbrev pub wished_old : List ℕ → Option ℕ → Option OldCertForm
-wished_old issuer None = None
-wished_old issuer (Some serial) = Some (record { issuer = part 0xA4 issuer; serial = number_octets serial })
+abbrev pub wished_old : List ℕ → ℕ → OldCertForm
+wished_old issuer serial = record { issuer = part 0xA4 issuer; serial = number_octets serial }
+
+-- the controls
+abbrev pub wished_controls : List ℕ → Option ℕ → Option ControlsForm
+wished_controls issuer None = None
+wished_controls issuer (Some serial) = Some (record {
+  octets = element 0x30 (element 0x06 old_cert_id ++ element 0x30 (old_octets issuer serial));
+  old = Some (wished_old issuer serial);
+})
+
+-- the CertRequest
+abbrev pub wished_request : CrmfWish → Key → RequestForm
+wished_request w key = record { id = 0 ∷ []; template = wished_template w key; controls = wished_controls w.issuer w.old }
 
 -- the proof
 abbrev pub wished_signing : List ℕ → SigningForm
@@ -114,15 +131,19 @@ abbrev pub wished_popo : Proof → PopoForm
 wished_popo variant.RaVerified = by_ra
 wished_popo (variant.Signature sig) = signed (wished_signing sig)
 
--- and all of them in the one request
-abbrev pub wished_req : CrmfWish → Key → ReqForm
-wished_req w key = record {
-  id = 0 ∷ [];
-  request = element 0x30 (request_octets w);
-  template = wished_template w key;
-  old = wished_old w.issuer w.old;
-  popo = wished_popo w.proof;
+-- and of a request as it stands, in which this is, under a proof
+abbrev pub around_req : List ℕ → RequestForm → Proof → ReqForm
+around_req request inside proof = record {
+  id = inside.id;
+  request = request;
+  template = inside.template;
+  old = old_in inside.controls;
+  popo = wished_popo proof;
 }
+
+-- and of the request of a wish
+abbrev pub wished_req : CrmfWish → Key → ReqForm
+wished_req w key = around_req (element 0x30 (request_octets w)) (wished_request w key) w.proof
 
 -- what is read again of an info that was written
 abbrev pub wished_info : CrmfWish → Key → InfoForm

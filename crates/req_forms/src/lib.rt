@@ -13,4 +13,6 @@ pub use controls::OldCert;
 pub use pkcs10::{P10, read_p10};
 pub use possession::Popo;
 pub use requests::{CrmfList, CrmfReq, read_crmf};
-pub use wish::{CrmfWish, Proof, write_crmf, write_p10, write_p10_info};
+pub use wish::{
+    CrmfWish, Proof, write_around, write_crmf, write_p10, write_p10_info, write_request,
+};

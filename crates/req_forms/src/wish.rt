@@ -6,7 +6,7 @@ ghost use Rattle.asn_types.specs.Key.{Key};
 
 use asn_parts::number;
 use asn_types::{EXTENSION_REQUEST, HSS_LMS, OLD_CERT_ID};
-use cmp_ports::Octets;
+use cmp_values::Octets;
 use der_base::Writer;
 use std::alloc::{AllocError, Global};
 
@@ -18,8 +18,8 @@ pub enum Proof {
 }
 
 /// What a request asks for: the subject, a whole name; the key, a whole SubjectPublicKeyInfo; the whole elements of the extensions,
-/// none or more; the serial number of the certificate that is updated and its issuer, a whole name; and the proof. A PKCS #10
-/// request has neither of the last three.
+/// none or more; the serial number of the certificate that is updated and its issuer, a whole name, which is not looked at where
+/// no certificate is; and the proof. A PKCS #10 request has none of the last three.
 #[derive(Debug, Drop)]
 pub struct CrmfWish {
     pub subject: Octets,
@@ -31,11 +31,11 @@ pub struct CrmfWish {
 }
 
 ghost use Rattle.req_forms.specs.Possession.{signature_element};
-ghost use Rattle.req_forms.specs.Requests.{IsCrmf};
+ghost use Rattle.req_forms.specs.Requests.{RequestForm, FitsRequest, IsCrmf, request_content};
 ghost use Rattle.req_forms.specs.Pkcs10.{InfoForm, FitsInfo, IsP10, info_content};
 ghost use Rattle.req_forms.specs.Controls.{old_cert_id};
 ghost use Rattle.req_forms.specs.Attributes.{extension_request_id};
-ghost use Rattle.req_forms.specs.Written.{IsWish, hss_lms, old_octets, wished_req, wished_info, written_p10, hss_algorithm, retagged, template_octets, control_octets, request_octets, proof_octets, crmf_octets, asked_octets, info_octets, p10_octets};
+ghost use Rattle.req_forms.specs.Written.{IsAsked, IsWish, hss_lms, old_octets, wished_request, around_req, wished_req, wished_info, written_p10, hss_algorithm, retagged, template_octets, control_octets, request_octets, proof_octets, around_octets, crmf_octets, asked_octets, info_octets, p10_octets};
 
 /// Puts an element under another tag behind the octets of a writer.
 fn put_retagged(writer: &mut Writer, tag: u8, octets: &[u8]) -> Result<(), AllocError>
@@ -191,6 +191,55 @@ fn put_proof(writer: &mut Writer, proof: &Proof) -> Result<(), AllocError>
     }
 }
 
+/// The octets of a CertRequest.
+fn request_written(alloc: Global, wish: &CrmfWish) -> Result<Octets, AllocError>
+    requires { length (request_octets wish.now) < 2 ^ 32 }
+    ensures { IfOk result (λ octets. octets ≡ element 0x30 (request_octets wish.now)) }
+{
+    let mut writer = Writer::new(alloc);
+    put_request(&mut writer, wish)?;
+    Ok(Octets::of(writer.finish()))
+}
+
+/// Writes the CertRequest of a wish (RFC 4211, 5), whose certReqId is 0: what a proof of possession signs. `AllocError` where
+/// memory runs out.
+#[tactic(auto, using(asn_types::proofs::LengthLemmas::lengths))]
+pub fn write_request(alloc: Global, wish: &CrmfWish) -> Result<Octets, AllocError>
+    requires { length (element 0x30 (request_octets wish.now)) < 2 ^ 32 }
+    ensures written { IfOk result (λ octets. octets ≡ element 0x30 (request_octets wish.now)) }
+    // What is written is what stands in a message.
+    ensures again { (key : Key) → IsWish wish.now key → IfOk result (λ octets.
+        IsElement octets 0x30 (request_content (wished_request wish.now key)) × FitsRequest (wished_request wish.now key)) }
+{
+    request_written(alloc, wish)
+}
+
+/// The octets of CertReqMessages with one message.
+#[tactic(auto, using(asn_types::proofs::LengthLemmas::lengths))]
+fn around_written(alloc: Global, request: &[u8], proof: &Proof) -> Result<Octets, AllocError>
+    requires { length (around_octets request.now proof.now) < 2 ^ 32 }
+    ensures { IfOk result (λ octets. octets ≡ around_octets request.now proof.now) }
+{
+    let mut writer = Writer::new(alloc);
+    writer.put_whole(request)?;
+    put_proof(&mut writer, proof)?;
+    writer.wrap(0x30, 0)?;
+    writer.wrap(0x30, 0)?;
+    Ok(Octets::of(writer.finish()))
+}
+
+/// Writes CertReqMessages with one message (RFC 4211, 3) around a whole CertRequest, which stays as it stands, and its proof.
+/// `AllocError` where memory runs out.
+pub fn write_around(alloc: Global, request: &[u8], proof: &Proof) -> Result<Octets, AllocError>
+    requires { length (around_octets request.now proof.now) < 2 ^ 32 }
+    ensures written { IfOk result (λ octets. octets ≡ around_octets request.now proof.now) }
+    // What is written is read again.
+    ensures again { (inside : RequestForm) → FitsRequest inside → IsElement request.now 0x30 (request_content inside)
+        → IfOk result (λ octets. IsCrmf octets (row_of (around_req request.now inside proof.now ∷ []))) }
+{
+    around_written(alloc, request, proof)
+}
+
 /// The octets of CertReqMessages with one request.
 #[tactic(auto, using(asn_types::proofs::LengthLemmas::lengths))]
 fn crmf_written(alloc: Global, wish: &CrmfWish) -> Result<Octets, AllocError>
@@ -280,7 +329,7 @@ pub fn write_p10_info(alloc: Global, wish: &CrmfWish) -> Result<Octets, AllocErr
     requires { length (info_octets wish.now) < 2 ^ 32 }
     ensures written { IfOk result (λ octets. octets ≡ info_octets wish.now) }
     // What is written is what stands in a request.
-    ensures again { (key : Key) → IsWish wish.now key → IfOk result (λ octets.
+    ensures again { (key : Key) → IsAsked wish.now key → IfOk result (λ octets.
         IsElement octets 0x30 (info_content (wished_info wish.now key)) × FitsInfo (wished_info wish.now key)) }
 {
     info_written(alloc, wish)

@@ -9,7 +9,7 @@ ghost use Rattle.x509_cert.specs.Plan.{hss_lms, planned, IsPlanned, signed_octet
 
 use crate::validity::validity_content;
 use asn_parts::number;
-use cmp_ports::Octets;
+use cmp_values::Octets;
 use der_base::Writer;
 use std::alloc::{AllocError, Global};
 

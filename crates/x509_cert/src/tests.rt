@@ -2,7 +2,7 @@
 //! 1.72 (tests/vectors/java/CertVectors.java); the seconds are by Python's calendar.timegm.
 use crate::{Cert, CertPlan, read_cert, write_cert, write_tbs};
 use asn_fields::BadForm;
-use cmp_ports::Octets;
+use cmp_values::Octets;
 use std::alloc::Global;
 use std::process::Abort;
 use std::test::Fail;

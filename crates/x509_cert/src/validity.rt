@@ -5,7 +5,7 @@ ghost use Rattle.x509_cert.specs.Validity.{IsTimeText, IsValidity, time_tag};
 
 use asn_fields::BadForm;
 use asn_types::{LAST_UTC, generalized, read_time, utc};
-use cmp_ports::Octets;
+use cmp_values::Octets;
 use der_base::{Element, Writer, read_element, whole};
 use std::alloc::{AllocError, Global};
 

@@ -1,7 +1,7 @@
 -- the first reason that is found is the lowest one
 use Rattle.std.proofs.Common.{ℕ, ◌≤◌, IsTrue, sym, subst, arith}
 use Rattle.der_base.specs.Values.{bit_string_of}
-use Rattle.cmp_ports.specs.Reasons.{bit_of}
+use Rattle.cmp_values.specs.Reasons.{bit_of}
 use Rattle.pki_parts.specs.FailInfo.{is_set}
 use Rattle.pki_parts.proofs.FailLemmas.{from_next, none_set}
 use Rattle.pki_parts.proofs.fail_info.first_reason.Goals as goal

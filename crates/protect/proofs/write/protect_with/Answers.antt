@@ -1,5 +1,7 @@
-use Rattle.std.proofs.Common.{subst}
-use Rattle.protect.specs.Written.{IsAccepted}
+use Rattle.std.proofs.Common.{◌≤◌, subst, arith}
+use Rattle.std.proofs.lemmas.Result.{IfOk-weaker}
+use Rattle.pki_parts.specs.Status.{option_size}
+use Rattle.protect.specs.Written.{IsAccepted, protection_for}
 use Rattle.protect.proofs.write.protect_with.Goals as goal
 
 pub returns-in-Nothing-clause-again : goal.returns-in-Nothing-clause-again
@@ -10,3 +12,12 @@ returns-in-Mac-clause-again g c = λ fits accepted b whole certs. rw (c.in-Mac.i
 
 pub returns-in-Leaf-clause-again : goal.returns-in-Leaf-clause-again
 returns-in-Leaf-clause-again g c = λ fits accepted b whole certs. rw (c.in-Leaf.is) (c.with_signature.ensures.again fits b whole certs)
+
+pub returns-in-Nothing-clause-size : goal.returns-in-Nothing-clause-size
+returns-in-Nothing-clause-size g c = λ n bound. IfOk-weaker c.unprotected.result _ _ (λ octets h. omega (arith, h)) c.unprotected.ensures.size
+
+pub returns-in-Mac-clause-size : goal.returns-in-Mac-clause-size
+returns-in-Mac-clause-size g c = λ n bound. c.with_mac.ensures.size n (λ part. subst (λ h. option_size (protection_for g.L.LeafSigner.signature h part) ≤ n) c.in-Mac.is (bound part))
+
+pub returns-in-Leaf-clause-size : goal.returns-in-Leaf-clause-size
+returns-in-Leaf-clause-size g c = λ n bound. c.with_signature.ensures.size n (λ part. subst (λ h. option_size (protection_for g.L.LeafSigner.signature h part) ≤ n) c.in-Leaf.is (bound part))

@@ -1,19 +1,30 @@
-use Rattle.std.proofs.Common.{◌≡◌, ℕ, List, length, Some, sym, ap, ◌∙◌, arith}
+-- by the two steps of signing
+use Rattle.std.proofs.Common.{◌≡◌, ℕ, List, sym, ap, subst, ◌∙◌}
 use Rattle.std.specs.Option.{option_copied}
+use Rattle.hss_sig.specs.Hss.{HssOk}
 use Rattle.pki_message.specs.Frame.{protected_part}
-use Rattle.protect.specs.Algorithms.{hss_lms, algorithm_octets}
-use Rattle.protect.specs.declared.key.Key.TheVariants as keys
-use Rattle.protect.proofs.AlgorithmLemmas.{hss_fits, hss_short}
-use Rattle.protect.proofs.BackLemmas.{headed, signed_by, read_back}
+use Rattle.pki_header.specs.Plan.{plan_size}
+use Rattle.protect.proofs.BackLemmas.{signed_made, signed_size}
 use Rattle.protect.proofs.write.with_signature.Goals as goal
+
+pub returns-clause-made : goal.returns-clause-made
+returns-clause-made g c =
+    let signature = g.L.LeafSigner.signature c.args.signer.now c.args.leaf in
+    let text : c.as_slice.result.now ≡ protected_part c.in_ok-unsigned.unsigned.header c.args.body.now = c.as_slice.ensures ∙ c.in_ok-unsigned.ensures.part in
+    let sig : c.as_slice-2.result.now ≡ signature c.as_slice.result.now = c.as_slice-2.ensures ∙ c.in_ok-sig.ensures.signed in
+    let made : c.as_slice-2.result.now ≡ signature (protected_part c.in_ok-unsigned.unsigned.header c.args.body.now) = sig ∙ ap signature text in
+    signed_made c.with_sig.result c.args.plan.now c.args.body.now c.as_slice-2.result.now c.in_ok-unsigned.unsigned.header (option_copied c.args.extra) signature
+    c.with_sig.ensures.written c.in_ok-unsigned.ensures.planned made
+
+pub returns-clause-size : goal.returns-clause-size
+returns-clause-size g c = λ n bound.
+    let signature = g.L.LeafSigner.signature c.args.signer.now c.args.leaf in
+    signed_size c.with_sig.result c.args.body.now c.as_slice-2.result.now c.in_ok-unsigned.unsigned.header c.as_slice.result.now (option_copied c.args.extra) signature (plan_size c.args.plan.now) n
+    c.with_sig.ensures.size c.in_ok-unsigned.ensures.size (c.as_slice-2.ensures ∙ c.in_ok-sig.ensures.signed) bound
 
 pub returns-clause-again : goal.returns-clause-again
 returns-clause-again g c = λ fits b whole certs.
-    let header = c.as_slice-3.result.now in
-    let part = protected_part header c.args.body.now in
-    let same : c.as_slice-2.result.now ≡ part = c.as_slice-2.ensures ∙ c.in_ok-part.ensures ∙ ap (λ (h : List ℕ). protected_part h c.args.body.now) (c.as_slice.ensures ∙ sym c.as_slice-3.ensures) in
     let key = g.L.LeafSigner.key c.args.signer.now in
-    read_back c.write_message.result c.args.plan.now (Some hss_lms) header c.args.body.now (Some c.as_slice-4.result.now) (option_copied c.args.extra) (Some (keys.Lms key)) b c.write_message.ensures.message
-    (headed c.args.plan.now (Some c.in_ok-alg.alg) (Some (algorithm_octets hss_lms)) c.in_ok-header.header header (ap (λ (x : List ℕ). Some x) c.in_ok-alg.ensures.spelled) c.as_slice-3.ensures c.in_ok-header.ensures.again)
-    fits (hss_fits, hss_short) whole (omega (arith, ap (λ (x : List ℕ). length x) c.as_slice-4.ensures, c.in_ok-sig.ensures.short)) certs (omega (arith, c.requires.counted))
-    (signed_by key c.as_slice-2.result.now part c.in_ok-sig.sig c.as_slice-4.result.now c.in_ok-sig.ensures.valid same c.as_slice-4.ensures)
+    let text : c.as_slice.result.now ≡ protected_part c.in_ok-unsigned.unsigned.header c.args.body.now = c.as_slice.ensures ∙ c.in_ok-unsigned.ensures.part in
+    c.with_sig.ensures.again c.args.plan.now key b c.in_ok-unsigned.ensures.planned fits whole certs
+    (subst (λ (l : List ℕ). HssOk key l c.as_slice-2.result.now) text (subst (λ (l : List ℕ). HssOk key c.as_slice.result.now l) (sym c.as_slice-2.ensures) c.in_ok-sig.ensures.valid))
