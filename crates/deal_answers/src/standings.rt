@@ -6,7 +6,7 @@ ghost use Rattle.deal_model.specs.Views.{same, settings_of, not_after, IsTimely,
 use crate::keys::{is_lms_key, key_id, key_of};
 use crate::kinds::{is_entry, other_kind, same};
 use crate::views::{certificate_state, founding, grant_of, is_dismissed};
-use cmp_ports::Short;
+use cmp_values::Short;
 use deal_model::{CertificateState, Change, Credential, Kind, Owner, Standing, Who};
 
 fn owner_of_credential(c: &Credential) -> Owner

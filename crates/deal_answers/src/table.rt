@@ -7,19 +7,15 @@ ghost use Rattle.deal_answers.specs.Times.{is_timely};
 use crate::nonces::last_nonce;
 use crate::standings::{standing_of, standing_of_who};
 use crate::views::{certificate_state, is_key_taken, is_told, leaves_used, transaction_state};
-use deal_model::{CertificateState, Change, DealState, Key, Kind, Standing, Who};
+use deal_model::{
+    CertificateState, Change, DealState, Key, Kind, LATEST_TIME, MOST_CHANGES, Standing, Who,
+};
 use std::marker::Model;
-
-/// No clock says more than this many seconds since 1970.
-const LAST_SECOND: u64 = 250_000_000_000;
-
-/// The most changes of a history.
-const MOST_CHANGES: usize = 262_144;
 
 fn is_timely(c: &Change) -> bool
     ensures { result ≡ is_timely c.now }
 {
-    c.time() <= LAST_SECOND
+    c.time() <= LATEST_TIME
 }
 
 fn all_timely(h: &[Change]) -> bool

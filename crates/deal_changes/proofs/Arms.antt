@@ -1,5 +1,5 @@
 -- A change of a kind: what one reads of its parts is spelled so, and what is spelled so is read.
-use Rattle.std.proofs.Common.{◌≡◌, ℕ, Bool, true, false, cond, List, [], ◌∷◌, ◌++◌, Option, Some, None, refl, sym, ap, subst, ◌∙◌, append_assoc}
+use Rattle.std.proofs.Common.{◌≡◌, ℕ, List, ◌∷◌, ◌++◌, Some, refl, ap, subst, ◌∙◌, append_assoc}
 use Rattle.deal_changes.specs.declared.change.Change.{Change}
 use Rattle.deal_changes.specs.Spelling.{spelling, IsChange}
 use Rattle.deal_changes.specs.Reading.{Read, ◌>>=◌}

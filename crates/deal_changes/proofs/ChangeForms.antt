@@ -1,23 +1,14 @@
 -- The form of stamps, wishes, settings and credentials, and of each change by its kind.
-use Rattle.std.proofs.Common.{◌≡◌, ℕ, zero, suc, ◌+◌, ◌^◌, ◌<◌, ◌≤◌, Bool, true, false, cond, ltb, eqb, List, [], ◌∷◌, ◌++◌, length, Option, Some, None, refl, sym, ap, subst, ◌∙◌, append_assoc, arith, IsTrue}
+use Rattle.std.proofs.Common.{◌≡◌, ℕ, zero, suc, ◌^◌, ◌<◌, List, [], ◌∷◌, ◌++◌, length, Some, refl, ap, subst, ◌∙◌, append_assoc, IsTrue}
 use Rattle.std.specs.Prelude.{IfSome}
 use Rattle.std.specs.List.{flat_map, AllByRecursion}
 use Rattle.std.specs.Int.{w16, w32, w64}
-use Rattle.std.proofs.lemmas.Bool.{eqb-true}
-use Rattle.std.proofs.lemmas.List.{append-nil, nil_from_length}
-use Rattle.std.proofs.lemmas.List.Concat.{flat_map-cons}
-use Rattle.deal_changes.specs.declared.change.Kind.{Kind}
-use Rattle.deal_changes.specs.declared.change.Who.{Who}
-use Rattle.deal_changes.specs.declared.change.Body4.{Body4}
 use Rattle.deal_changes.specs.declared.change.Credential.{Credential}
-use Rattle.deal_changes.specs.declared.change.Stamp.{Stamp}
-use Rattle.deal_changes.specs.declared.change.Wish.{Wish}
-use Rattle.deal_changes.specs.declared.change.Settings.{Settings}
 use Rattle.deal_changes.specs.Spki.{is_spki, is_ca_name}
 use Rattle.deal_changes.specs.Spelling as text
 use Rattle.deal_changes.specs.Spelling.{u16, u32, u64, IsBlob, IsShort, IsTid, IsWho, IsListed, IsStamp, IsWish, AreSettings, IsCredential, AreCredentials}
-use Rattle.deal_changes.specs.Reading.{Read, ◌>>=◌, octet_at, octets_at, number_at, coded_at, short_at, tid_at, blob_at, spki_at, name_at, leaf_at, kind_of, flags_of, rights_of, who_at, stamp_at, wish_at, settings_at, credential_at, credentials_at, list_at, numbers_at}
-use Rattle.deal_changes.proofs.Forms.{IsBytes, bind_some, if_some, none_some, got, got_pair, Took, took_both, Nothing, IsRest, IsForm, fitting, seq, last, octet_form, octets_form}
+use Rattle.deal_changes.specs.Reading.{◌>>=◌, octet_at, octets_at, number_at, coded_at, short_at, tid_at, blob_at, spki_at, name_at, leaf_at, kind_of, flags_of, rights_of, who_at, stamp_at, wish_at, settings_at, credential_at, credentials_at, list_at, numbers_at}
+use Rattle.deal_changes.proofs.Forms.{IsBytes, bind_some, got, got_pair, Took, took_both, Nothing, IsRest, IsForm, fitting, seq, last, octet_form, octets_form}
 use Rattle.deal_changes.proofs.PartForms.{u16_form, u32_form, u64_form, short_form, tid_form, blob_form, spki_form, name_form, kind_form, flags_form, rights_form, leaf_form, who_form}
 
 pub stamp_form : IsForm stamp_at text.stamp IsStamp

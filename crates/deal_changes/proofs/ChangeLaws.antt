@@ -1,17 +1,16 @@
 -- The two laws of changes: what is read is spelled so, and what is spelled so is read.
-use Rattle.std.proofs.Common.{◌≡◌, ℕ, ◌^◌, ◌<◌, Bool, true, false, cond, eqb, List, [], ◌∷◌, ◌++◌, length, Option, Some, None, Result, Ok, Err, refl, sym, ap, subst, ◌∙◌, arith}
+use Rattle.std.proofs.Common.{◌≡◌, ℕ, ◌^◌, ◌<◌, true, cond, eqb, List, [], ◌∷◌, ◌++◌, length, Option, Some, None, Result, Ok, Err, refl, sym, ap, subst, ◌∙◌}
 use Rattle.std.specs.Prelude.{IfOk}
 use Rattle.std.specs.Int.{w64}
 use Rattle.std.proofs.lemmas.Bool.{eqb-true}
 use Rattle.std.proofs.lemmas.List.{append-nil, nil_from_length}
-use Rattle.deal_changes.specs.declared.change.Who.{Who}
 use Rattle.deal_changes.specs.declared.change.Change.{Change}
 use Rattle.deal_changes.specs.declared.change.Change.TheVariants.{Found, Enlist, Dismiss, Grant, Hold, Release, Deny, Turned, Polled, Settled, Revoke, Lapse}
 use Rattle.deal_changes.specs.declared.fault.ChangeFault.{ChangeFault}
 use Rattle.deal_changes.specs.Spelling as text
 use Rattle.deal_changes.specs.Spelling.{u32, u64, IsWriteable, IsTid, IsListed, IsStamp, IsWish, AreSettings, AreCredentials, spelling, IsChange}
 use Rattle.deal_changes.specs.Reading.{Read, ◌>>=◌, Gives, octet_at, number_at, coded_at, tid_at, dismissed_at, stamp_at, wish_at, settings_at, list_at, numbers_at, body_of, outcome_of, found_at, enlist_at, dismiss_at, grant_at, hold_at, release_at, deny_at, turned_at, polled_at, settled_at, revoke_at, lapse_at, order_at, kind_at, change_of}
-use Rattle.deal_changes.proofs.Forms.{IsBytes, IsBytes-rest, bind_some, if_some, none_some, got, got_pair, same_some, Took, Nothing, octet_form}
+use Rattle.deal_changes.proofs.Forms.{IsBytes, IsBytes-rest, bind_some, if_some, none_some, got, same_some, Took, Nothing, octet_form}
 use Rattle.deal_changes.proofs.PartForms.{u64_form, tid_form, dismissed_form, body_form, outcome_form}
 use Rattle.deal_changes.proofs.ChangeForms.{stamp_form, wish_form, settings_form, list_form, numbers_form}
 use Rattle.deal_changes.proofs.Arms.{Arm, arm1, arm2, arm3, arm4, again1, again2, again3, again4}

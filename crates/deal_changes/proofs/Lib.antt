@@ -4,3 +4,4 @@ pub mod PartForms
 pub mod ChangeForms
 pub mod Arms
 pub mod ChangeLaws
+pub mod PayloadLemmas

@@ -1,8 +1,7 @@
 -- The form of each part of a change.
-use Rattle.std.proofs.Common.{◌≡◌, ℕ, zero, suc, ◌+◌, ◌^◌, ◌<◌, ◌≤◌, Bool, true, false, cond, ltb, eqb, List, [], ◌∷◌, ◌++◌, length, Option, Some, None, refl, sym, ap, subst, ◌∙◌, append_assoc, arith, IsTrue}
+use Rattle.std.proofs.Common.{◌≡◌, ℕ, zero, suc, ◌^◌, ◌<◌, ◌≤◌, Bool, true, false, cond, ltb, eqb, List, [], ◌∷◌, ◌++◌, length, Option, Some, None, refl, ap, subst, ◌∙◌, arith, IsTrue}
 use Rattle.std.specs.Prelude.{IfSome}
-use Rattle.std.specs.List.{flat_map, AllByRecursion}
-use Rattle.std.specs.Int.{w16, w32, w64, to_be_bytes}
+use Rattle.std.specs.Int.{w16, w32, w64}
 use Rattle.std.proofs.lemmas.Bool.{ltb-false, le-ltb, eqb-true, eq-eqb, ltb-true, lt-ltb}
 use Rattle.std.proofs.lemmas.Bool.Decides.{nat_tests}
 use Rattle.deal_changes.specs.declared.change.Kind.{Kind}
@@ -11,15 +10,11 @@ use Rattle.deal_changes.specs.declared.change.Who.{Who}
 use Rattle.deal_changes.specs.declared.change.Who.TheVariants.{Listed, Cert}
 use Rattle.deal_changes.specs.declared.change.Body4.{Body4}
 use Rattle.deal_changes.specs.declared.change.Body4.TheVariants.{Ir, Cr, P10cr, Kur}
-use Rattle.deal_changes.specs.declared.change.Credential.{Credential}
-use Rattle.deal_changes.specs.declared.change.Stamp.{Stamp}
-use Rattle.deal_changes.specs.declared.change.Wish.{Wish}
-use Rattle.deal_changes.specs.declared.change.Settings.{Settings}
 use Rattle.deal_changes.specs.Spki.{is_spki, is_ca_name}
 use Rattle.deal_changes.specs.Spelling as text
 use Rattle.deal_changes.specs.Spelling.{u16, u32, u64, IsBlob, IsShort, IsTid, IsWho, IsListed, IsStamp, IsWish, AreSettings, IsCredential, AreCredentials}
-use Rattle.deal_changes.specs.Reading.{Read, ◌>>=◌, octet_at, octets_at, number_at, coded_at, short_at, tid_at, key_id_at, blob_at, spki_at, name_at, leaf_at, kind_of, body_of, outcome_of, flags_of, rights_of, listed_at, sender_at, who_at, dismissed_at, stamp_at, wish_at, settings_at, credential_at, credentials_at, list_at, numbers_at}
-use Rattle.deal_changes.proofs.Forms.{IsBytes, IsBytes-rest, bind_some, if_some, none_some, got, got_pair, Took, took_both, Nothing, IsRest, IsForm, fitting, seq, last, passing, failing, octet_form, octets_rest, octets_form, form16, form32, form64, coded_form}
+use Rattle.deal_changes.specs.Reading.{Read, ◌>>=◌, octet_at, octets_at, number_at, coded_at, short_at, tid_at, key_id_at, blob_at, spki_at, name_at, leaf_at, kind_of, body_of, outcome_of, flags_of, rights_of, listed_at, sender_at, who_at, dismissed_at}
+use Rattle.deal_changes.proofs.Forms.{IsBytes, IsBytes-rest, bind_some, if_some, none_some, got, got_pair, Took, Nothing, IsRest, IsForm, fitting, seq, passing, failing, octet_form, octets_rest, form16, form32, form64, coded_form}
 
 -- ---- numbers
 

@@ -3,4 +3,5 @@ pub mod Spki
 pub mod PublicKeys
 pub mod Spelling
 pub mod Reading
+pub mod Payload
 pub mod Times

@@ -1,6 +1,6 @@
 -- Reading from left to right on whole lists: a part and the octets after it, or nothing where the format has no such
 -- part. The readers of the code give what these give; the laws in proofs/ join them to the spelling.
-use Rattle.std.specs.Prelude.{◌≡◌, ℕ, zero, suc, ◌+◌, Bool, true, false, not, List, [], ◌∷◌, length, take, drop, Option, Some, None, Result, Ok, Err, nat_lt, ◌==◌, ◌&&◌, if◌then◌else◌}
+use Rattle.std.specs.Prelude.{◌≡◌, ℕ, zero, suc, Bool, true, false, List, [], ◌∷◌, length, take, drop, Option, Some, None, Result, Ok, Err, nat_lt, ◌==◌, if◌then◌else◌}
 use Rattle.std.specs.Int.{Width, w16, w32, w64, byte_len, from_be_bytes}
 use Rattle.deal_changes.specs.declared.change.Kind.{Kind}
 use Rattle.deal_changes.specs.declared.change.Kind.TheVariants.{Mac, Lms}

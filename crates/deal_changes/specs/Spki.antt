@@ -1,6 +1,6 @@
 -- What a change's octets of DER say: the key in a SubjectPublicKeyInfo (RFC 5280, 4.1.2.7), and the text of a Name that is
 -- one common name (RFC 5280, 4.1.2.4, and X.520, 6.2.2). An element is der_base's (X.690).
-use Rattle.std.specs.Prelude.{◌≡◌, ℕ, ◌&&◌, ◌||◌, Bool, true, false, List, [], ◌∷◌, length, Option, Some, None, Result, Ok, Err, is_some, is_ok, nat_le, ◌==◌, if◌then◌else◌}
+use Rattle.std.specs.Prelude.{ℕ, ◌&&◌, ◌||◌, Bool, List, [], ◌∷◌, length, Option, Some, None, Result, Ok, Err, is_some, is_ok, nat_le, ◌==◌, if◌then◌else◌}
 use Rattle.std.specs.Str.{bytes_eq, is_utf8}
 use Rattle.der_base.specs.Reading.{Part, element_at, whole_at}
 use Rattle.der_base.specs.Values.{is_oid}

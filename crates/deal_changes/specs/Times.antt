@@ -1,7 +1,6 @@
 -- What a change is told by: its time, the stamp that a message left in it, its transaction.
 use Rattle.std.specs.Prelude.{ℕ, List, Option, Some, None}
 use Rattle.deal_changes.specs.declared.change.Stamp.{Stamp}
-use Rattle.deal_changes.specs.declared.change.Settings.{Settings}
 use Rattle.deal_changes.specs.declared.change.Change.{Change}
 use Rattle.deal_changes.specs.declared.change.Change.TheVariants.{Found, Enlist, Dismiss, Grant, Hold, Release, Deny, Turned, Polled, Settled, Revoke, Lapse}
 

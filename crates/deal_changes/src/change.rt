@@ -1,7 +1,7 @@
 //! What a change says.
 ghost use Rattle.std.specs.Prelude.{◌≡◌, length, IfOk};
 
-use cmp_ports::{Octets, Short};
+use cmp_values::{Octets, Short};
 use std::alloc::{AllocError, Global};
 use std::marker::Model;
 

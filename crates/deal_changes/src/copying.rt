@@ -2,7 +2,7 @@
 ghost use Rattle.std.specs.Prelude.{◌≡◌, IfOk};
 
 use crate::change::{Change, CredentialList, Settings, Stamp, Wish};
-use cmp_ports::Octets;
+use cmp_values::Octets;
 use std::alloc::{AllocError, Global};
 
 fn copy_of_stamp(alloc: Global, s: &Stamp) -> Result<Stamp, AllocError>
@@ -21,18 +21,6 @@ fn copy_of_stamp(alloc: Global, s: &Stamp) -> Result<Stamp, AllocError>
     })
 }
 
-fn copy_of_wish(alloc: Global, w: &Wish) -> Result<Wish, AllocError>
-    ensures { IfOk result (λ copy. copy ≡ w.now) }
-{
-    Ok(Wish {
-        subject: Octets::copy_of(alloc, w.subject.as_slice())?,
-        spki: Octets::copy_of(alloc, w.spki.as_slice())?,
-        exts: Octets::copy_of(alloc, w.exts.as_slice())?,
-        implicit: w.implicit,
-        mods: w.mods,
-    })
-}
-
 fn copy_of_settings(alloc: Global, s: &Settings) -> Result<Settings, AllocError>
     ensures { IfOk result (λ copy. copy ≡ s.now) }
 {
@@ -47,6 +35,21 @@ fn copy_of_settings(alloc: Global, s: &Settings) -> Result<Settings, AllocError>
         check_after: s.check_after,
         days: s.days,
     })
+}
+
+impl Wish {
+    /// A copy. `AllocError` where memory runs out.
+    pub fn copy_of(alloc: Global, w: &Wish) -> Result<Wish, AllocError>
+        ensures { IfOk result (λ copy. copy ≡ w.now) }
+    {
+        Ok(Wish {
+            subject: Octets::copy_of(alloc, w.subject.as_slice())?,
+            spki: Octets::copy_of(alloc, w.spki.as_slice())?,
+            exts: Octets::copy_of(alloc, w.exts.as_slice())?,
+            implicit: w.implicit,
+            mods: w.mods,
+        })
+    }
 }
 
 impl Change {
@@ -73,14 +76,14 @@ impl Change {
             } => Ok(Change::Grant {
                 stamp: copy_of_stamp(alloc, stamp)?,
                 body: *body,
-                wish: copy_of_wish(alloc, wish)?,
+                wish: Wish::copy_of(alloc, wish)?,
                 serial: *serial,
                 leaf: *leaf,
             }),
             Change::Hold { stamp, body, wish } => Ok(Change::Hold {
                 stamp: copy_of_stamp(alloc, stamp)?,
                 body: *body,
-                wish: copy_of_wish(alloc, wish)?,
+                wish: Wish::copy_of(alloc, wish)?,
             }),
             Change::Release { time, tid } => Ok(Change::Release {
                 time: *time,

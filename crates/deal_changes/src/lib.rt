@@ -6,6 +6,7 @@ mod change;
 mod copying;
 mod fault;
 mod parts;
+mod payload;
 mod reading;
 mod spki;
 #[cfg(test)]
@@ -15,6 +16,7 @@ mod writing;
 
 pub use change::{Body4, Change, Credential, CredentialList, Kind, Settings, Stamp, Who, Wish};
 pub use fault::ChangeFault;
+pub use payload::{read_blob, read_short, read_u64, write_blob, write_short, write_u64};
 pub use reading::read_change;
 pub use spki::{PublicKey, common_name, is_ca_name, is_spki, is_text, public_key};
 pub use writing::write_change;

@@ -6,7 +6,7 @@ ghost use Rattle.deal_changes.specs.Reading.{Gives, octet_at, octets_at, number_
 use crate::change::{Body4, Kind};
 use crate::fault::ChangeFault;
 use crate::spki::{is_ca_name, is_spki};
-use cmp_ports::{Octets, Short};
+use cmp_values::{Octets, Short};
 use std::alloc::Global;
 
 /// What was read, or the fault on which the reader stops.

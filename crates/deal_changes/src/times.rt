@@ -3,7 +3,7 @@ ghost use Rattle.std.specs.Prelude.{◌≡◌, Option, Some, None, option_copied
 ghost use Rattle.deal_changes.specs.Times.{time_of_change, stamp_of, tid_of};
 
 use crate::change::{Change, Stamp};
-use cmp_ports::Short;
+use cmp_values::Short;
 
 impl Change {
     /// When it was made, in seconds since 1970. Takes no memory.

@@ -3,11 +3,11 @@ ghost use Rattle.std.specs.Prelude.{◌≡◌, ◌<◌, ◌^◌, List, [], ◌++
 ghost use Rattle.deal_changes.specs.Spelling.{u16, u32, u64, short, blob, optional, kind, who, body, outcome, flags, stamp, wish, settings, credential, credentials, spelling, IsBlob, IsWriteable};
 
 use crate::change::{Body4, Change, Credential, Kind, Settings, Stamp, Who, Wish};
-use cmp_ports::Octets;
+use cmp_values::Octets;
 use std::alloc::{AllocError, Global};
 
 #[tactic(auto, unfolding(crate::specs::Spelling::u64))]
-fn put_u64(out: &mut Vec<u8>, n: u64) -> Result<(), AllocError>
+pub(crate) fn put_u64(out: &mut Vec<u8>, n: u64) -> Result<(), AllocError>
     ensures { OnOk result (out.new.items ≡ out.old.items ++ u64 n) }
 {
     out.extend_from_slice(&n.to_be_bytes())
@@ -34,7 +34,7 @@ fn put_octet(out: &mut Vec<u8>, n: u8) -> Result<(), AllocError>
     Ok(())
 }
 
-fn put_short(out: &mut Vec<u8>, octets: &[u8]) -> Result<(), AllocError>
+pub(crate) fn put_short(out: &mut Vec<u8>, octets: &[u8]) -> Result<(), AllocError>
     requires { length octets.now < 2 ^ 8 }
     ensures { OnOk result (out.new.items ≡ out.old.items ++ short octets.now) }
 {
@@ -42,7 +42,7 @@ fn put_short(out: &mut Vec<u8>, octets: &[u8]) -> Result<(), AllocError>
     out.extend_from_slice(octets)
 }
 
-fn put_blob(out: &mut Vec<u8>, octets: &[u8]) -> Result<(), AllocError>
+pub(crate) fn put_blob(out: &mut Vec<u8>, octets: &[u8]) -> Result<(), AllocError>
     requires { IsBlob octets.now }
     ensures { OnOk result (out.new.items ≡ out.old.items ++ blob octets.now) }
 {

@@ -7,7 +7,7 @@ ghost use Rattle.deal_model.specs.Views.{settings_of, AreTimely};
 ghost use Rattle.deal_lines.specs.Lines.{line, changes_line, issue_line, reply_line, certificate_line, granted, waiting_line, waiting, lines_of};
 
 use crate::put::{put_decimal, put_hex, put_share, put_state};
-use cmp_ports::Octets;
+use cmp_values::Octets;
 use deal_answers::{certificate_state, founding, leaves_of, leaves_used, transaction_state};
 use deal_model::{CertificateState, Change, DealState, Key};
 use std::alloc::{AllocError, Global};

@@ -4,7 +4,7 @@ ghost use Rattle.std.specs.Fmt.{decimal};
 ghost use Rattle.hex.specs.Hex.{encode_lower};
 ghost use Rattle.deal_lines.specs.Lines.{share, reason_text, state_text};
 
-use cmp_ports::Octets;
+use cmp_values::Octets;
 use deal_model::{CertificateState, Reason};
 use itoa::Buffer;
 use std::alloc::{AllocError, Global};

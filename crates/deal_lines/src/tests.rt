@@ -2,7 +2,7 @@
 //! which stand there by hand.
 
 use crate::show_lines;
-use cmp_ports::Octets;
+use cmp_values::Octets;
 use deal_answers::Table;
 use deal_model::{Change, read_change};
 use hex::decode;

@@ -19,7 +19,7 @@ use Rattle.deal_model.specs.declared.states.Key.TheVariants.{Issue, Reply}
 use Rattle.deal_model.specs.declared.states.CertificateState.{CertificateState}
 use Rattle.deal_model.specs.declared.states.CertificateState.TheVariants as certificates
 use Rattle.deal_model.specs.declared.states.DealState.{DealState}
-use Rattle.deal_model.specs.Views.{History, same, is_empty, is_grant, is_grant_for, has_leaf, leaves_used, leaves_in, reply_leaves, HasLeaf, TakesLeaf, certificate_state, open_or_closed, after_grant, ungranted_state, transaction_state}
+use Rattle.deal_model.specs.Views.{History, same, is_empty, is_grant, is_grant_for, has_leaf, leaves_used, taken_leaves, reply_leaves, HasLeaf, TakesLeaf, certificate_state, open_or_closed, after_grant, ungranted_state, transaction_state}
 use Rattle.deal_model.specs.Rules.{Allowed, Legal, GrantComes, reply_leaf}
 use Rattle.deal_model.specs.Laws.{EachLeafOnce, SerialsDiffer, OneGrantEach}
 use Rattle.deal_model.proofs.Histories.{allowed_at, cut_behind}
@@ -66,7 +66,7 @@ signed_or_not : (o : Option ℕ) → (Rattle.std.specs.Option.is_some o ≡ true
 signed_or_not (Some n) = inl refl
 signed_or_not None = inr refl
 
-grant_between : (h : History) (s : Stamp) (b : Body4) (w : Wish) (serial leaf : ℕ) → is_empty h ≡ false → leaf ≡ leaves_used h Issue → s.leaf ≡ reply_leaf h s.who → (key : Key) (l : ℕ) → HasLeaf (leaves_in (Grant s b w serial leaf)) key l → Between h (Grant s b w serial leaf) key l
+grant_between : (h : History) (s : Stamp) (b : Body4) (w : Wish) (serial leaf : ℕ) → is_empty h ≡ false → leaf ≡ leaves_used h Issue → s.leaf ≡ reply_leaf h s.who → (key : Key) (l : ℕ) → HasLeaf (taken_leaves (Grant s b w serial leaf)) key l → Between h (Grant s b w serial leaf) key l
 grant_between h s b w serial leaf some next reply key l (inl is) =
     let more : leaves_used (h ++ Grant s b w serial leaf ∷ []) Issue ≡ leaves_used h Issue + 1 = issues_push h (Grant s b w serial leaf) some in
     subst (λ (k : Key). Between h (Grant s b w serial leaf) k l) is.0 (subst (λ (m : ℕ). Between h (Grant s b w serial leaf) Issue m) is.1 (omega arith, omega arith))

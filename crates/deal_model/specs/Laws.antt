@@ -9,7 +9,7 @@ use Rattle.deal_changes.specs.Times.{time_of_change}
 use Rattle.deal_model.specs.declared.states.Key.{Key}
 use Rattle.deal_model.specs.declared.states.Reason.{Reason}
 use Rattle.deal_model.specs.declared.states.CertificateState.TheVariants.{Revoked}
-use Rattle.deal_model.specs.Views.{History, TakesLeaf, certificate_state}
+use Rattle.deal_model.specs.Views.{History, SignsWith, TakesLeaf, certificate_state}
 use Rattle.deal_model.specs.Rules.{Allowed, Legal}
 
 -- an allowed change keeps a legal history legal
@@ -27,6 +27,10 @@ TimeNeverFalls h = (p q : ℕ) (c d : Change) → p ≤ q → slice_get h p ≡ 
 -- no leaf of a key is taken at two places
 abbrev pub EachLeafOnce : History → Type 0
 EachLeafOnce h = (p q : ℕ) (c d : Change) (key : Key) (leaf : ℕ) → slice_get h p ≡ Some c → slice_get h q ≡ Some d → TakesLeaf c key leaf → TakesLeaf d key leaf → p ≡ q
+
+-- a change takes each leaf that it signs with
+abbrev pub SignedAreTaken : Type 0
+SignedAreTaken = (c : Change) (key : Key) (leaf : ℕ) → SignsWith c key leaf → TakesLeaf c key leaf
 
 -- no two certificates have one serial number
 abbrev pub SerialsDiffer : History → Type 0

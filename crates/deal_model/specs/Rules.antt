@@ -22,6 +22,7 @@ use Rattle.deal_model.specs.declared.states.DealState.{DealState}
 use Rattle.deal_model.specs.declared.states.DealState.TheVariants.{Unused, Held, Released, Denied, Open}
 use Rattle.deal_model.specs.declared.states.Standing.{Standing}
 use Rattle.deal_model.specs.declared.states.Standing.TheVariants.{Unknown, OtherKind, Barred, Good}
+use Rattle.deal_model.specs.Limits.{most_changes, latest_time}
 use Rattle.deal_model.specs.Keys.{levels_of, tree_of, ots_of, leaves_of, key_id, key_of}
 use Rattle.deal_model.specs.Views.{History, same, time_of, settings_of, is_found, is_grant_for, is_hold_for, is_grant_of, has_digest, is_empty, same_kind, is_entry, is_listed, is_dismissed, is_key_taken, certificate_state, transaction_state, is_told, leaves_used, standing_of_who}
 
@@ -232,8 +233,8 @@ log_size h = 8 + sum_by size_of h
 pub record Allowed (h : History) (c : Change) : Type 0 where
   pub form : IsChange c
   pub later : time_of h ≤ time_of_change c
-  pub bounded : time_of_change c ≤ 250000000000
-  pub room : length h < 262144
+  pub bounded : time_of_change c ≤ latest_time
+  pub room : length h < most_changes
   pub size : log_size h + size_of c ≤ 2 ^ 30
   pub opening : is_found c ≡ is_empty h
   pub holds : Holds h c

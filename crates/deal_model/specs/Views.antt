@@ -24,6 +24,7 @@ use Rattle.deal_model.specs.declared.states.DealState.TheVariants as deals
 use Rattle.deal_model.specs.declared.states.Owner.{Owner}
 use Rattle.deal_model.specs.declared.states.Standing.{Standing}
 use Rattle.deal_model.specs.declared.states.Standing.TheVariants.{Unknown, OtherKind, Barred, Good}
+use Rattle.deal_model.specs.Limits.{latest_time}
 use Rattle.deal_model.specs.Keys.{key_id, key_of, is_lms_key}
 
 abbrev pub History : Type 0
@@ -66,7 +67,7 @@ not_after h time = time + 86400 * (settings_of h).days - 1
 
 -- a change is not later than any clock may say
 abbrev pub IsTimely : Change → Type 0
-IsTimely c = time_of_change c ≤ 250000000000
+IsTimely c = time_of_change c ≤ latest_time
 
 abbrev pub AreTimely : History → Type 0
 AreTimely h = AllByRecursion IsTimely h
@@ -262,7 +263,7 @@ leaves_used [] Issue = 0
 leaves_used (c ∷ h) Issue = 2 + count_by is_grant (c ∷ h)
 leaves_used h Reply = count_by has_leaf h
 
--- the leaves that a change takes, Issue before Reply
+-- the leaves that a change signs with, Issue before Reply: its own certificates and its reply
 abbrev pub reply_leaves : Option ℕ → List (Key × ℕ)
 reply_leaves (Some l) = (Reply, l) ∷ []
 reply_leaves None = []
@@ -271,19 +272,27 @@ abbrev pub stamp_leaves : Option Stamp → List (Key × ℕ)
 stamp_leaves (Some s) = reply_leaves s.leaf
 stamp_leaves None = []
 
-abbrev pub leaves_in : Change → List (Key × ℕ)
-leaves_in (Found s) = (Issue, 0) ∷ (Issue, 1) ∷ []
-leaves_in (Grant s b w serial leaf) = (Issue, leaf) ∷ reply_leaves s.leaf
-leaves_in c = stamp_leaves (stamp_of c)
+abbrev pub signing_leaves : Change → List (Key × ℕ)
+signing_leaves (Found s) = (Issue, 0) ∷ (Issue, 1) ∷ []
+signing_leaves (Grant s b w serial leaf) = (Issue, leaf) ∷ reply_leaves s.leaf
+signing_leaves c = stamp_leaves (stamp_of c)
+
+-- the leaves that a change takes, so that no other one takes them: those that it signs with
+abbrev pub taken_leaves : Change → List (Key × ℕ)
+taken_leaves c = signing_leaves c
 
 -- the leaf is among them
 abbrev pub HasLeaf : List (Key × ℕ) → Key → ℕ → Type 0
 HasLeaf [] key leaf = ⊥
 HasLeaf (x ∷ xs) key leaf = ((x.0 ≡ key) × (x.1 ≡ leaf)) ⊎ HasLeaf xs key leaf
 
+-- the change signs with the leaf
+abbrev pub SignsWith : Change → Key → ℕ → Type 0
+SignsWith c key leaf = HasLeaf (signing_leaves c) key leaf
+
 -- the change takes the leaf
 abbrev pub TakesLeaf : Change → Key → ℕ → Type 0
-TakesLeaf c key leaf = HasLeaf (leaves_in c) key leaf
+TakesLeaf c key leaf = HasLeaf (taken_leaves c) key leaf
 
 -- ---- senders
 

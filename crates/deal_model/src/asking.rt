@@ -1,7 +1,7 @@
 //! What a message asks of the history, and what of it was checked.
 
 use crate::states::Key60;
-use cmp_ports::Short;
+use cmp_values::Short;
 use deal_changes::{Body4, Kind, Who, Wish};
 
 /// What the history is asked about a message before it is checked.
@@ -37,13 +37,13 @@ pub struct Echo<'a> {
 pub enum Job {
     /// The message stands in the history: its reply is sent again.
     Repeat,
-    /// A request for a certificate: the body, what is wished for, and the serial number that oldCertID names.
-    Enrol(Body4, Wish, Option<u64>),
+    /// A request for a certificate: the body, and what is wished for.
+    Enrol(Body4, Wish),
     /// A certConf (RFC 9810, 5.3.18).
     Confirm {
         /// Whether the certReqId is 0 or -1.
         id_ok: bool,
-        /// The certHash, where it has 32 octets.
+        /// The certHash, where it has 32 octets; else 32 zeros.
         hash: [u8; 32],
         /// Whether hashAlg is absent or SHA-256.
         hash_alg_ok: bool,
@@ -68,8 +68,9 @@ pub enum Job {
 #[derive(Debug, Drop)]
 pub struct Checked<'a> {
     pub ask: Ask,
+    /// The sender; of a message that stands in the history the certificate 0, which is never granted.
     pub who: Who,
-    /// The secret or key under which the protection was checked.
+    /// The secret or key under which the protection was checked; empty of a message that stands in the history.
     pub key: Key60,
     /// The messageTime, in seconds since 1970.
     pub message_time: Option<u64>,
@@ -77,15 +78,15 @@ pub struct Checked<'a> {
     pub echo: Echo<'a>,
     /// The recipNonce; none where it has more than 64 octets.
     pub recip_nonce: Option<Short>,
-    /// Whether the sender showed that it has the private key.
+    /// Whether the sender showed that it has the private key, as a request has to.
     pub proven: bool,
-    /// Whether the certReqId is -1, as a request in the form of PKCS #10 has it.
+    /// Whether the certReqId of a certConf or a pollReq is -1, as a request in the form of PKCS #10 has it.
     pub minus_one: bool,
-    /// Whether a certConf's hash is that of the certificate; none where it wasn't asked yet.
+    /// Whether a certConf's hash is that of the certificate; none where it wasn't asked yet, and of any other message.
     pub hash_ok: Option<bool>,
-    /// The messageTime of the nested message around it.
+    /// The messageTime of the nested message around it; none where there is none.
     pub outer_time: Option<u64>,
-    /// The secret or key under which the nested message around it was checked.
+    /// The secret or key under which the nested message around it was checked; none where there is none.
     pub outer_key: Option<Key60>,
 }
 

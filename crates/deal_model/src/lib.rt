@@ -6,6 +6,7 @@
 
 mod asking;
 mod laws;
+mod limits;
 mod states;
 
 pub use asking::{Ask, Brief, Checked, Echo, Job};
@@ -14,4 +15,8 @@ pub use deal_changes::{
     Wish, common_name, is_ca_name, is_spki, is_text, public_key, read_change, write_change,
 };
 pub use laws::{legal_histories, legal_histories_grow, revoked_stays};
-pub use states::{CertificateState, DealState, Key, Key60, Owner, Reason, Standing};
+pub use limits::{LATEST_TIME, MOST_CHANGES};
+pub use states::{
+    CertificateState, DealState, ENROL, HOLD, Key, Key60, Owner, REVOKE, Reason, Standing, VOUCH,
+    WRAP,
+};

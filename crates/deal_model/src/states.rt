@@ -1,6 +1,6 @@
 //! The answers of a history.
 
-use cmp_ports::Short;
+use cmp_values::Short;
 use deal_changes::Who;
 
 /// A secret of 8 to 64 octets, or an HSS/LMS key of 60.
@@ -56,12 +56,23 @@ pub enum DealState {
     Other,
 }
 
+/// The right to enrol.
+pub const ENROL: u8 = 1;
+/// The right to vouch for another's possession of a key (RFC 9810, 5.2.8).
+pub const VOUCH: u8 = 2;
+/// The right to wrap messages of others (RFC 9810, 5.1.3.5).
+pub const WRAP: u8 = 4;
+/// The right to revoke what is another's.
+pub const REVOKE: u8 = 8;
+/// What makes requests wait for an order.
+pub const HOLD: u8 = 16;
+
 /// To whom a credential belongs, and what it may do.
 #[derive(Clone, Copy, Debug)]
 pub struct Owner {
     pub who: Who,
     pub key: Key60,
-    /// Bits: enrol 1, vouch 2, wrap 4, revoke 8, hold 16.
+    /// The sum of `ENROL`, `VOUCH`, `WRAP`, `REVOKE` and `HOLD`, as far as it has them.
     pub rights: u8,
 }
 

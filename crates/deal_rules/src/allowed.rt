@@ -11,15 +11,9 @@ use crate::rules::{
     awaits_order, may_grant, may_hold, may_lapse, may_poll, may_revoke, may_settle, may_turn,
 };
 use crate::sizes::has_room;
-use cmp_ports::Short;
+use cmp_values::Short;
 use deal_answers::{is_dismissed, is_listed};
-use deal_model::{Change, Credential, Kind, Who};
-
-/// The changes that a history may have.
-const MOST_CHANGES: usize = 262_144;
-
-/// The last second that a clock may say.
-const LATEST: u64 = 250_000_000_000;
+use deal_model::{Change, Credential, Kind, LATEST_TIME, MOST_CHANGES, Who};
 
 /// The time of the last change, in seconds since 1970; 0 where there is none.
 #[tactic(auto, using(crate::proofs::Histories::last_time))]
@@ -96,7 +90,7 @@ fn holds(h: &[Change], c: &Change) -> bool
 fn is_in_time(h: &[Change], c: &Change) -> bool
     ensures { IsTrue result ↔ ((time_of h.now ≤ time_of_change c.now) × (time_of_change c.now ≤ 250000000000)) }
 {
-    time_of(h) <= c.time() && c.time() <= LATEST
+    time_of(h) <= c.time() && c.time() <= LATEST_TIME
 }
 
 /// Whether there is room for a change, and it is a Found where it comes first, and only there.

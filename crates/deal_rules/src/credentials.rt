@@ -4,7 +4,7 @@ ghost use Rattle.std.specs.List.{list_any};
 ghost use Rattle.deal_model.specs.Views.{same_kind, is_entry};
 ghost use Rattle.deal_model.specs.Rules.{IsReference, IsListedKey, IsNamed, stands, AreNew};
 
-use cmp_ports::Short;
+use cmp_values::Short;
 use deal_answers::{is_key_taken, is_listed, key_id, levels_of, ots_of, tree_of};
 use deal_model::{Change, Credential, Kind, is_text};
 

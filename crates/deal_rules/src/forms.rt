@@ -5,7 +5,7 @@ ghost use Rattle.deal_changes.specs.Spki.{is_ca_name};
 ghost use Rattle.deal_changes.specs.Spelling.{IsBlob, IsShort, IsTid, IsWho, IsListed, IsStamp, IsWish, AreSettings, IsCredential, AreCredentials, IsChange};
 
 use crate::sizes::{digest_size, key_size};
-use cmp_ports::{Octets, Short};
+use cmp_values::{Octets, Short};
 use deal_model::{Change, Credential, Kind, Settings, Stamp, Who, Wish, is_ca_name, is_spki};
 
 /// The octets of a length that four octets can tell.

@@ -16,5 +16,5 @@ pub use allowed::{is_allowed, is_legal, time_of};
 pub use forms::is_change;
 pub use requests::is_owner;
 pub use rules::{issue_leaves, reply_leaf, reply_leaves};
-pub use senders::{ENROL, HOLD, REVOKE, has_right, same_who};
+pub use senders::{has_right, same_who};
 pub use sizes::has_room;

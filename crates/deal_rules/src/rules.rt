@@ -8,12 +8,14 @@ ghost use Rattle.deal_model.specs.Views.{settings_of, has_digest, is_grant_of, i
 ghost use Rattle.deal_model.specs.Rules.{reply_leaf, StampRule, StampHolds, GrantComes, GrantRule, GrantHolds, HoldHolds, TurnedHolds, PolledHolds, IsOpenPast, IsOpenUntil, SettledHolds, RevokeHolds, is_granted_to, same_who, has_right, rights_of};
 
 use crate::requests::{is_as_held, is_grantee, is_holder, is_owner};
-use crate::senders::{ENROL, HOLD, REVOKE, has_right, rights_of, same_who};
+use crate::senders::{has_right, rights_of, same_who};
 use deal_answers::{
     certificate_state, founding, is_key_taken, is_known, is_told, key_id, key_of, leaves_of,
     leaves_used, transaction_state,
 };
-use deal_model::{Body4, CertificateState, Change, DealState, Key, Kind, Stamp, Who, Wish};
+use deal_model::{
+    Body4, CertificateState, Change, DealState, ENROL, HOLD, Key, Kind, REVOKE, Stamp, Who, Wish,
+};
 
 /// The leaves of the key that signs certificates; 0 where nothing was founded.
 #[tactic(auto, unfolding(deal_model::specs::Keys::leaves_of, deal_model::specs::Keys::tree_of))]

@@ -7,13 +7,6 @@ use crate::credentials::same_kind;
 use deal_answers::standing_of_who;
 use deal_model::{Change, Stamp, Standing, Who};
 
-/// The right to enrol.
-pub const ENROL: u8 = 1;
-/// The right to revoke what is another's.
-pub const REVOKE: u8 = 8;
-/// What makes requests wait for an order.
-pub const HOLD: u8 = 16;
-
 /// Whether two senders are the same.
 pub fn same_who(a: &Who, b: &Who) -> bool
     ensures { result ≡ same_who a.now b.now }

@@ -6,7 +6,7 @@ use Rattle.std.proofs.lemmas.Option.{none-some, same_Some}
 use Rattle.deal_changes.specs.declared.change.Change.{Change}
 use Rattle.deal_changes.specs.declared.change.Change.TheVariants.{Found, Enlist, Dismiss, Grant, Hold, Release, Deny, Turned, Polled, Settled, Revoke, Lapse}
 use Rattle.deal_model.specs.Views.{History, is_grant_for}
-use Rattle.cmp_ports.specs.declared.fail_info.FailInfo.TheVariants.{BadCertId}
+use Rattle.cmp_values.specs.declared.fail_info.FailInfo.TheVariants.{BadCertId}
 use Rattle.deal_table.specs.History.{Receipted, place_of, receipt_of, receipt_in, receipt_at, grant_receipt}
 use Rattle.deal_table.specs.Table.{To, Decision, Refuses, compared, compared_with}
 use Rattle.deal_table.proofs.Rows.{false_true}

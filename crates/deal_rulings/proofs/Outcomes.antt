@@ -6,8 +6,8 @@ use Rattle.deal_changes.specs.declared.change.Kind.{Kind}
 use Rattle.deal_model.specs.declared.states.Owner.{Owner}
 use Rattle.deal_model.specs.declared.states.Standing.{Standing}
 use Rattle.deal_model.specs.declared.states.Standing.TheVariants.{Unknown, OtherKind, Barred, Good}
-use Rattle.cmp_ports.specs.declared.fail_info.FailInfo.{FailInfo}
-use Rattle.cmp_ports.specs.declared.fail_info.FailInfo.TheVariants.{BadAlg}
+use Rattle.cmp_values.specs.declared.fail_info.FailInfo.{FailInfo}
+use Rattle.cmp_values.specs.declared.fail_info.FailInfo.TheVariants.{BadAlg}
 use Rattle.deal_table.specs.Table.{Row, To, Decision, Refuses, unless, known}
 use Rattle.deal_rulings.specs.declared.ruling.Ruling.{Ruling}
 use Rattle.deal_rulings.specs.Rulings.{ruling_of, outcome, sender_in}

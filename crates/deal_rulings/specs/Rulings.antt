@@ -12,8 +12,8 @@ use Rattle.deal_model.specs.declared.states.Standing.{Standing}
 use Rattle.deal_model.specs.declared.states.Standing.TheVariants.{Unknown, OtherKind, Barred, Good}
 use Rattle.deal_model.specs.Views.{History, is_told, leaves_used, reply_leaves}
 use Rattle.deal_model.specs.Rules.{reply_leaf}
-use Rattle.cmp_ports.specs.declared.fail_info.FailInfo.{FailInfo}
-use Rattle.cmp_ports.specs.declared.fail_info.FailInfo.TheVariants.{BadAlg, SignerNotTrusted, WrongIntegrity, NotAuthorized, SystemUnavail}
+use Rattle.cmp_values.specs.declared.fail_info.FailInfo.{FailInfo}
+use Rattle.cmp_values.specs.declared.fail_info.FailInfo.TheVariants.{BadAlg, SignerNotTrusted, WrongIntegrity, NotAuthorized, SystemUnavail}
 use Rattle.deal_table.specs.Message.{Enrolment, Confirmation, Polling, Withdrawal}
 use Rattle.deal_table.specs.History.{name_of}
 use Rattle.deal_table.specs.Table.{Row, Event, Sent, Decision, Makes, Repeats, Refuses, Asks, unless, bare, guarded, header_rows, passed, tid_of, state_now, deal_now, new_rows, old_rows, party_rows, wish_rows, key_rows, is_possessed, proof_rows, deal_certificate, confirm_rows, poll_rows, entry_rows, reason_rows, revoke_rows, stamp_by, is_past_key}

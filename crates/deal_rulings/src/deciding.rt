@@ -16,7 +16,7 @@ use crate::rows::{
 };
 use crate::ruling::{Ruling, refused, refused_bare, refused_outer};
 use crate::senders::{sender, time_rows};
-use cmp_ports::{FailInfo, Short};
+use cmp_values::{FailInfo, Short};
 use deal_model::{Body4, Change, Checked, Job, Kind, Owner, Wish};
 use std::alloc::{AllocError, Global};
 
@@ -227,7 +227,7 @@ fn about(alloc: Global, m: &Moment<'_>, c: &Checked<'_>, o: &Owner) -> Result<Ru
 {
     match &c.job {
         Job::Repeat => Ok(refused(c, FailInfo::BadRequest)),
-        Job::Enrol(body, wish, _) => enrol(alloc, m, c, o, *body, wish),
+        Job::Enrol(body, wish) => enrol(alloc, m, c, o, *body, wish),
         Job::Confirm {
             id_ok,
             hash_alg_ok,

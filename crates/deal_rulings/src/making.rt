@@ -1,7 +1,7 @@
 //! The changes that messages make.
 ghost use Rattle.std.specs.Prelude.{◌≡◌, ◌+◌, ◌≤◌, false, [], length, unwrap_or, is_some, IfOk, option_copied, option_and_then};
 ghost use Rattle.deal_model.specs.Rules.{reply_leaf};
-ghost use Rattle.deal_model.specs.Views.{leaves_in, leaves_used, AreTimely};
+ghost use Rattle.deal_model.specs.Views.{taken_leaves, leaves_used, AreTimely};
 ghost use Rattle.deal_table.specs.History.{deal_in};
 ghost use Rattle.deal_table.specs.Table.{Makes, unless, room_rows, made, stamp_by, grant_by, enrolled, is_on_hold, poll_made, state_now, deal_now};
 ghost use Rattle.deal_table.specs.Carry.{rest_enrolment};
@@ -11,24 +11,12 @@ use crate::moment::Moment;
 use crate::places::is_full;
 use crate::requests::request_for;
 use crate::ruling::{Ruling, refused};
-use crate::senders::may;
-use cmp_ports::{FailInfo, Octets, Short};
+use cmp_values::{FailInfo, Octets, Short};
 use deal_answers::{leaves_used, transaction_state};
-use deal_model::{Body4, Change, Checked, DealState, Key, Owner, Stamp, Who, Wish};
-use deal_rules::{HOLD, issue_leaves, reply_leaf, reply_leaves};
+use deal_model::{Body4, Change, Checked, DealState, HOLD, Key, Owner, Stamp, Who, Wish};
+use deal_rules::{issue_leaves, reply_leaf, reply_leaves};
+use deal_table::may;
 use std::alloc::{AllocError, Global};
-
-fn copy_of_wish(alloc: Global, w: &Wish) -> Result<Wish, AllocError>
-    ensures { IfOk result (λ copy. copy ≡ w.now) }
-{
-    Ok(Wish {
-        subject: Octets::copy_of(alloc, w.subject.as_slice())?,
-        spki: Octets::copy_of(alloc, w.spki.as_slice())?,
-        exts: Octets::copy_of(alloc, w.exts.as_slice())?,
-        implicit: w.implicit,
-        mods: w.mods,
-    })
-}
 
 /// The leaf of the reply to a sender, where one is needed and left.
 fn next_reply_leaf(h: &[Change], who: &Who) -> Result<Option<u32>, FailInfo>
@@ -110,7 +98,7 @@ fn stamp(
 
 /// A change that has the leaves which it needs is made where the journal has room for it.
 fn with_room(h: &[Change], c: &Checked<'_>, change: Change) -> Ruling
-    requires { lacks_leaf h.now (leaves_in change) ≡ false }
+    requires { lacks_leaf h.now (taken_leaves change) ≡ false }
     ensures { (o : Owner) → result ≡ ruling_of (unless (sent_by c.now o).to (room_rows h.now change) (Makes change)) }
 {
     if is_full(h, &change) {
@@ -142,7 +130,7 @@ pub(crate) fn granted(
             let grant = Change::Grant {
                 stamp,
                 body,
-                wish: copy_of_wish(alloc, wish)?,
+                wish: Wish::copy_of(alloc, wish)?,
                 serial: u64::from(leaf) + 1,
                 leaf,
             };
@@ -169,7 +157,7 @@ fn held(
             let hold = Change::Hold {
                 stamp,
                 body,
-                wish: copy_of_wish(alloc, wish)?,
+                wish: Wish::copy_of(alloc, wish)?,
             };
             Ok(with_room(m.history, c, hold))
         }

@@ -4,11 +4,8 @@ ghost use Rattle.deal_model.specs.Views.{is_grant_for};
 ghost use Rattle.deal_table.specs.History.{place_of, place_of_digest, event_time, is_full};
 
 use deal_answers::{has_digest, is_grant_for};
-use deal_model::Change;
+use deal_model::{Change, MOST_CHANGES};
 use deal_rules::{has_room, time_of};
-
-/// The changes that a history may have.
-const MOST_CHANGES: usize = 262_144;
 
 /// The place of the change that the message with this digest made; none where it made none.
 #[tactic(auto, unfolding(deal_table::specs::History::place_of_digest))]

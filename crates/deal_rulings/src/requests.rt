@@ -4,7 +4,7 @@ ghost use Rattle.deal_table.specs.History.{deal_in, deal_of};
 ghost use Rattle.deal_table.specs.Table.{is_of, is_bad_id, is_p10cr, same_nonce};
 ghost use Rattle.deal_table.specs.Carry.{id_by};
 
-use cmp_ports::Short;
+use cmp_values::Short;
 use deal_answers::{grant_for, hold_for};
 use deal_model::{Body4, Change, Who};
 use deal_rules::same_who;

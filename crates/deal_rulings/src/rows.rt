@@ -8,14 +8,17 @@ ghost use Rattle.deal_table.specs.Carry.{header_by, rest_facts, rest_enrolment, 
 ghost use Rattle.deal_rulings.specs.Rulings.{outcome, rest_confirmation, rest_polling};
 
 use crate::requests::{is_bad_id, is_of, request_for, same_nonce};
-use crate::senders::{WRAP, is_certificate, may};
-use cmp_ports::FailInfo;
+use crate::senders::is_certificate;
+use cmp_values::FailInfo;
 use deal_answers::{
     certificate_state, grant_for, grant_of, is_confirmed, is_key_taken, is_told, key_id, key_of,
     last_nonce, transaction_state,
 };
-use deal_model::{Body4, CertificateState, Change, Checked, DealState, Job, Owner, Who, Wish};
-use deal_rules::{ENROL, REVOKE, is_owner, same_who};
+use deal_model::{
+    Body4, CertificateState, Change, Checked, DealState, ENROL, Job, Owner, REVOKE, WRAP, Who, Wish,
+};
+use deal_rules::{is_owner, same_who};
+use deal_table::{is_deal, is_unused, may};
 
 /// What a certConf says of its statuses (RFC 9810, 5.3.18).
 #[derive(Clone, Copy)]
@@ -64,25 +67,6 @@ pub(crate) fn wrap_rows(c: &Checked<'_>, o: &Owner) -> Result<(), FailInfo>
         Ok(())
     } else {
         Err(FailInfo::NotAuthorized)
-    }
-}
-
-fn is_unused(state: DealState) -> bool
-    ensures { result ≡ is_unused state }
-{
-    match state {
-        DealState::Unused => true,
-        _ => false,
-    }
-}
-
-fn is_deal(state: DealState) -> bool
-    ensures { result ≡ is_deal state }
-{
-    match state {
-        DealState::Unused => false,
-        DealState::Other => false,
-        _ => true,
     }
 }
 

@@ -4,7 +4,7 @@ ghost use Rattle.deal_model.specs.declared.states.Owner.{Owner};
 ghost use Rattle.deal_table.specs.Table.{Refuses, bare, guard_by};
 ghost use Rattle.deal_rulings.specs.Rulings.{ruling_of, sent_by};
 
-use cmp_ports::FailInfo;
+use cmp_values::FailInfo;
 use deal_model::{Change, Checked, Kind};
 
 /// How what is left of a message is decided. Places count the changes of the history, from 1 on.

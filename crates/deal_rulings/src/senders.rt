@@ -1,26 +1,15 @@
 //! Who sent a message, and when it says so.
 ghost use Rattle.std.specs.Prelude.{◌≡◌, ◌<◌, ◌∷◌, []};
 ghost use Rattle.deal_model.specs.Views.{AreTimely};
-ghost use Rattle.cmp_ports.specs.declared.fail_info.FailInfo.TheVariants.{BadTime};
+ghost use Rattle.cmp_values.specs.declared.fail_info.FailInfo.TheVariants.{BadTime};
 ghost use Rattle.deal_table.specs.History.{skew_of, standing_for};
-ghost use Rattle.deal_table.specs.Table.{◌when◌, is_apart, is_certificate, may};
+ghost use Rattle.deal_table.specs.Table.{◌when◌, is_apart, is_certificate};
 ghost use Rattle.deal_rulings.specs.Rulings.{outcome, known_sender, sender_in};
 
-use cmp_ports::{FailInfo, Short};
+use cmp_values::{FailInfo, Short};
 use deal_answers::{founding, standing_of};
 use deal_model::{Change, Kind, Owner, Standing, Who};
-use deal_rules::has_right;
-
-/// The right to wrap messages of others.
-pub(crate) const WRAP: u8 = 4;
-
-/// Whether a sender has a right.
-pub(crate) fn may(right: u8, o: &Owner) -> bool
-    requires { 0 < right }
-    ensures { result ≡ may right o.now }
-{
-    has_right(right, Some(o.rights))
-}
+use deal_table::is_apart;
 
 /// Whether a sender is the holder of a certificate.
 pub(crate) fn is_certificate(who: &Who) -> bool
@@ -65,18 +54,6 @@ fn skew_of(h: &[Change]) -> u32
     match founding(h) {
         Some(settings) => settings.skew,
         None => 0,
-    }
-}
-
-fn is_apart(skew: u32, t: u64, time: Option<u64>) -> bool
-    ensures { result ≡ is_apart skew t time }
-{
-    match time {
-        Some(time) => {
-            let skew = u64::from(skew);
-            time.saturating_add(skew) < t || t.saturating_add(skew) < time
-        }
-        None => false,
     }
 }
 

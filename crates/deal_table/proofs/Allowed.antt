@@ -29,7 +29,7 @@ use Rattle.deal_model.specs.declared.asking.Checked.{Checked}
 use Rattle.deal_model.specs.declared.states.Owner.{Owner}
 use Rattle.deal_model.specs.declared.states.Standing.TheVariants.{Good}
 use Rattle.deal_model.specs.Keys.{key_id, key_of, leaves_of}
-use Rattle.deal_model.specs.Views.{History, same_kind, time_of, settings_of, is_found, is_empty, is_grant_for, is_hold_for, is_grant_of, has_digest, is_confirmed, is_key_taken, certificate_state, open_or_closed, after_grant, transaction_state, is_told, leaves_used, reply_leaves, leaves_in, standing_of_who}
+use Rattle.deal_model.specs.Views.{History, same_kind, time_of, settings_of, is_found, is_empty, is_grant_for, is_hold_for, is_grant_of, has_digest, is_confirmed, is_key_taken, certificate_state, open_or_closed, after_grant, transaction_state, is_told, leaves_used, reply_leaves, taken_leaves, standing_of_who}
 use Rattle.deal_model.specs.Rules.{Legal, Allowed, AllowedFrom, Holds, same_who, same_body, same_bool, same_wish, rights_as, is_held_by, is_held_as, is_granted_to, reply_leaf, StampHolds, IsOpenPast, size_of, log_size}
 use Rattle.deal_model.proofs.Histories.{allowed_at}
 use Rattle.deal_model.proofs.Leaves.{same_refl, found_passes}
@@ -140,9 +140,9 @@ hold_for_is tid (Lapse time id) e = false_true _ e
 -- ---- room
 
 -- a leaf that its key has
-has_room : (h : History) (c : Change) → pass (room_rows h c) ≡ true → (list_any (is_past_key h) (leaves_in c) ≡ false) × (length h < 262144) × (log_size h + size_of c ≤ 2 ^ 30)
+has_room : (h : History) (c : Change) → pass (room_rows h c) ≡ true → (list_any (is_past_key h) (taken_leaves c) ≡ false) × (length h < 262144) × (log_size h + size_of c ≤ 2 ^ 30)
 has_room h c p =
-    let parts = or_parts (list_any (is_past_key h) (leaves_in c)) (is_full h c) (only _ p) in
+    let parts = or_parts (list_any (is_past_key h) (taken_leaves c)) (is_full h c) (only _ p) in
     let full = or_parts (nat_le 262144 (length h)) (nat_lt (2 ^ 30) (log_size h + size_of c)) parts.1 in
     (parts.0, leb-false 262144 (length h) full.0, ltb-false (2 ^ 30) (log_size h + size_of c) full.1)
 
@@ -218,7 +218,7 @@ numbers_form h leaf below = let most : leaves_of (settings_of h).issue_key ≤ 2
 
 -- ---- what is made
 
-made_is : (v : Event) (s : Sent) (d c : Change) → made v s d ≡ Makes c → (d ≡ c) × (pass (room_rows v.history d) ≡ true)
+pub made_is : (v : Event) (s : Sent) (d c : Change) → made v s d ≡ Makes c → (d ≡ c) × (pass (room_rows v.history d) ≡ true)
 made_is v s d c e = let made_by = unless_makes s.to (room_rows v.history d) (Makes d) c e in (same_change d c made_by.1, made_by.0)
 
 -- what is made holds, by its kind, and there is room for it
@@ -304,7 +304,7 @@ compared_with_makes : (to : To) (matches : Receipted → Option Bool) (found : O
 compared_with_makes to matches (Some r) next c e = compared_makes to r.place (matches r) next c e
 compared_with_makes to matches None next c e = absurd (let f : Refuses _ to ≡ Makes c = e in cc)
 
-settles_makes : (v : Event) (s : Sent) (f : Confirmation) (c : Change) → settles v s f ≡ Makes c → (accepted : Bool) × (made v s (Settled (stamp_by v s) accepted) ≡ Makes c)
+pub settles_makes : (v : Event) (s : Sent) (f : Confirmation) (c : Change) → settles v s f ≡ Makes c → (accepted : Bool) × (made v s (Settled (stamp_by v s) accepted) ≡ Makes c)
 settles_makes v s f c e = elim (f.count == 0) as (λ b. cond b (made v s (Settled (stamp_by v s) false)) (unless s.to (status_rows (deal_now v s) f) (compared_with s.to f.matches (grant_receipt v.history (tid_of s.header)) (made v s (Settled (stamp_by v s) (nat_lt f.status 2))))) ≡ Makes c → (accepted : Bool) × (made v s (Settled (stamp_by v s) accepted) ≡ Makes c)) [
   | true ↦ λ q. (false, q)
   | false ↦ λ q. (nat_lt f.status 2, compared_with_makes s.to f.matches (grant_receipt v.history (tid_of s.header)) _ c (unless_makes s.to (status_rows (deal_now v s) f) _ c q).1)
@@ -451,7 +451,7 @@ same_bool_refl false = refl
 same_wish_refl : (w : Wish) → same_wish w w ≡ true
 same_wish_refl w = rw (same_refl w.subject, same_refl w.spki, same_refl w.exts, same_bool_refl w.implicit, same_bool_refl w.mods) refl
 
-poll_makes : (v : Event) (s : Sent) (state : DealState) (found : Option Deal) (c : Change) → poll_made v s state found ≡ Makes c → (d : Deal) × (found ≡ Some d) × (made v s (polled v s state d) ≡ Makes c)
+pub poll_makes : (v : Event) (s : Sent) (state : DealState) (found : Option Deal) (c : Change) → poll_made v s state found ≡ Makes c → (d : Deal) × (found ≡ Some d) × (made v s (polled v s state d) ≡ Makes c)
 poll_makes v s state (Some d) c e = (d, refl, e)
 poll_makes v s state None c e = absurd (let f : Refuses _ s.to ≡ Makes c = e in cc)
 
@@ -538,7 +538,7 @@ rest_fits name k f = record { digest = f.digest; tid = f.tid; sender = f.sender;
   where
     by_job : (name : List ℕ) (k : Checked) (job : Job) → FitsJob job → FitsBody (rest_body name k job)
     by_job name k Repeat f = tt
-    by_job name k (Enrol body wish old) f = f
+    by_job name k (Enrol body wish) f = f
     by_job name k (Confirm id_ok hash hash_alg_ok count status) f = tt
     by_job name k (Poll ids_ok) f = tt
     by_job name k (Withdraw serial reason) f = f

@@ -18,10 +18,9 @@ use Rattle.deal_model.specs.declared.states.Owner.{Owner}
 use Rattle.deal_table.specs.Carry.{Carries}
 use Rattle.deal_model.specs.Keys.{tree_of, leaves_of, key_id, key_of, is_lms_key}
 use Rattle.deal_model.specs.Views.{History, same, owner_of, standing_of, at_first, after_lapse, after_settled, after_revoke, certificate_state, after_grant, transaction_state, last_nonce, leaves_used}
-use Rattle.cmp_ports.specs.declared.fail_info.FailInfo.TheVariants.{BadAlg, BadMessageCheck, BadRequest, BadTime, BadCertId, BadDataFormat, BadPop, CertRevoked, CertConfirmed, WrongIntegrity, BadRecipientNonce, BadSenderNonce, BadCertTemplate, SignerNotTrusted, TransactionIdInUse, UnsupportedVersion, NotAuthorized, SystemUnavail, DuplicateCertReq}
+use Rattle.cmp_values.specs.declared.fail_info.FailInfo.TheVariants.{BadAlg, BadMessageCheck, BadRequest, BadTime, BadCertId, BadDataFormat, BadPop, CertRevoked, CertConfirmed, WrongIntegrity, BadRecipientNonce, BadSenderNonce, BadCertTemplate, SignerNotTrusted, TransactionIdInUse, UnsupportedVersion, NotAuthorized, SystemUnavail, DuplicateCertReq}
 use Rattle.deal_table.specs.History.{place_of_digest, deal_of, receipt_at, grant_receipt}
 use Rattle.deal_table.specs.Message.{Zero, MinusOne, OtherId, Named, Enrolment, Confirmation, Polling, Withdrawal, Body, Enrols, Confirms, Polls, Withdraws, Nests, OtherBody, Header, Facts, Letter}
-use Rattle.deal_table.specs.Served.{decision_so_far}
 use Rattle.deal_table.specs.Table.{To, Decision, Makes, Repeats, Refuses, Asks, decision}
 
 -- ---- a service with four credentials
@@ -540,48 +539,11 @@ revokes_itself : IsEleven → decided (certified settings true) (record (update 
 unfolding decided
 revokes_itself is = rw (is.0, is.1) (rw (is.0, is.1) refl)
 
--- ---- what is served so far
+-- ---- what was checked carries a message
 
-served : History → Letter → Decision
-unfolding place_of_digest deal_of receipt_at grant_receipt owner_of standing_of at_first after_lapse after_settled after_revoke certificate_state after_grant transaction_state last_nonce leaves_used leaves_of tree_of u16 u32 u64
-served h l = decision_so_far h l 1000 words
-
+-- a message that nests no other one
 alone : Facts → Letter
 alone m = record { message = m; inner = m }
-
-kur_so_far : served service (alone (message 1 1 1 (Enrols (record request { body = Kur })))) ≡ Refuses BadRequest bare
-unfolding served alone
-kur_so_far = refl
-
-poll_so_far : served (held Cr) (alone (message 2 1 3 (Polls poll))) ≡ Refuses BadRequest bare
-unfolding served alone
-poll_so_far = refl
-
-rr_so_far : served (settled true) (alone (message 5 5 1 (Withdraws withdrawal))) ≡ Refuses BadRequest bare
-unfolding served alone
-rr_so_far = refl
-
-nested_so_far : served service (record { message = message 0 0 2 (Nests 1); inner = message 1 1 1 (Enrols request) }) ≡ Refuses BadRequest bare
-unfolding served
-nested_so_far = refl
-
-hold_so_far : served service (alone (message 1 1 3 (Enrols request))) ≡ Refuses NotAuthorized (guarded 3)
-unfolding served alone
-hold_so_far = refl
-
-two_so_far : served service (alone (message 1 1 3 (Enrols (record request { is_one = false })))) ≡ Refuses BadRequest (guarded 3)
-unfolding served alone
-two_so_far = refl
-
-granted_so_far : IsNew key → served service (alone (message 1 1 1 (Enrols request))) ≡ Makes (Grant (stamp 1 1 1 1000) Ir wish 3 2)
-unfolding served alone
-granted_so_far new = rw new refl
-
-confirmed_so_far : served (opened 901) (alone (message 2 1 1 (Confirms accepting))) ≡ Makes (Settled (stamp 2 1 1 1000) true)
-unfolding served alone
-confirmed_so_far = refl
-
--- ---- what was checked carries a message
 
 -- the service under this name
 abbrev named : List ℕ → History
@@ -594,7 +556,7 @@ checked sender = record {
   who = Listed Mac (1 ∷ []);
   key = 1 ∷ 1 ∷ [];
   message_time = Some 1000;
-  job = Enrol Ir wish None;
+  job = Enrol Ir wish;
   echo = record { pvno = 2; sender = sender; tid = Some (1 ∷ []); nonce = Some (replicate 16 3) };
   recip_nonce = Some nonce;
   proven = true;

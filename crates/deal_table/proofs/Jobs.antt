@@ -89,7 +89,7 @@ withdraw_same v s w serial reason p n r = rw (← n) (withdraw_rest v s w reason
 
 -- a job has a body that is served
 pub job_served : (name : List ℕ) (o : Owner) (c : Checked) (body : Body) (job : Job) → IsJob name o c body job → (is_served body ≡ true) × (is_served (rest_body name c job) ≡ true)
-job_served name o c (Enrols e) (Enrol body wish old) k = (refl, refl)
+job_served name o c (Enrols e) (Enrol body wish) k = (refl, refl)
 job_served name o c (Confirms f) (Confirm id_ok hash hash_alg_ok count status) k = (refl, refl)
 job_served name o c (Polls p) (Poll ids_ok) k = (refl, refl)
 job_served name o c (Withdraws w) (Withdraw serial reason) k = (refl, refl)
@@ -102,7 +102,7 @@ Tells h tid told _ = Unit {0}
 
 pub about_same : (v : Event) (s : Sent) (c : Checked) (body : Body) (job : Job) → IsJob (name_of v.history) s.owner c body job → Tells v.history (tid_of s.header) c.hash_ok body → about v s body ≡ about v s (rest_body (name_of v.history) c job)
 unfolding told_confirmation
-about_same v s c (Enrols e) (Enrol body wish old) k told = enrol_same v s e body wish c.proven k.0 k.1 k.2 k.3
+about_same v s c (Enrols e) (Enrol body wish) k told = enrol_same v s e body wish c.proven k.0 k.1 k.2 k.3
 about_same v s c (Confirms f) (Confirm id_ok hash hash_alg_ok count status) k told =
     ap (λ d. unless s.to (old_rows (state_now v s) ++ party_rows v.history s.header s.owner.who ++ confirm_rows (deal_certificate v.history (tid_of s.header)) v.time) d)
     (settles_same v s f c id_ok hash_alg_ok count status k.0 k.1 told)

@@ -36,7 +36,7 @@ digest_stays h more digest place e = place_stays (has_digest digest) h more plac
 
 job_later : (h more : History) (m : Facts) (c : Checked) (job : Job) → IsFounded h → IsForJob h m c job → IsForJob (h ++ more) m c job
 job_later h more m c Repeat f k = (k.0, digest_stays h more m.digest k.0 k.1)
-job_later h more m c (Enrol body wish old) f k = checked_later h more m c f k
+job_later h more m c (Enrol body wish) f k = checked_later h more m c f k
 job_later h more m c (Confirm id_ok hash hash_alg_ok count status) f k = checked_later h more m c f k
 job_later h more m c (Poll ids_ok) f k = checked_later h more m c f k
 job_later h more m c (Withdraw serial reason) f k = checked_later h more m c f k
@@ -62,7 +62,7 @@ carries_later l c h later b k = subst (λ (g : History). Carries l c g) (sym b.1
 -- ---- what is told of certHash is asked nowhere
 
 job_told : (name : List ℕ) (o : Owner) (c : Checked) (told : Option Bool) (body : Body) (job : Job) → IsJob name o (untold c) body job → IsJob name o (record c { hash_ok = told }) body job
-job_told name o c told (Enrols e) (Enrol body wish old) k = k
+job_told name o c told (Enrols e) (Enrol body wish) k = k
 job_told name o c told (Confirms f) (Confirm id_ok hash hash_alg_ok count status) k = k
 job_told name o c told (Polls p) (Poll ids_ok) k = k
 job_told name o c told (Withdraws w) (Withdraw serial reason) k = k
@@ -73,7 +73,7 @@ checked_told h m c k = record { owner = k.owner; protection = k.protection; key 
 
 for_job_told : (h : History) (m : Facts) (c : Checked) (job : Job) → IsForJob h m (untold c) job → IsForJob h m c job
 for_job_told h m c Repeat k = k
-for_job_told h m c (Enrol body wish old) k = checked_told h m c k
+for_job_told h m c (Enrol body wish) k = checked_told h m c k
 for_job_told h m c (Confirm id_ok hash hash_alg_ok count status) k = checked_told h m c k
 for_job_told h m c (Poll ids_ok) k = checked_told h m c k
 for_job_told h m c (Withdraw serial reason) k = checked_told h m c k
@@ -105,7 +105,7 @@ protected_blind : (h : History) (m : Facts) (o : Owner) → IsProtected h m o �
 protected_blind h m o p = record { stands = p.stands; protected = p.protected; verified = p.verified }
 
 job_blind : (name : List ℕ) (o : Owner) (c : Checked) (body : Body) (job : Job) → IsJob name o c body job → IsJob name o c (blind_body body) job
-job_blind name o c (Enrols e) (Enrol body wish old) k = k
+job_blind name o c (Enrols e) (Enrol body wish) k = k
 job_blind name o c (Confirms f) (Confirm id_ok hash hash_alg_ok count status) (same, inl none) = (same, inl none)
 job_blind name o c (Confirms f) (Confirm id_ok hash hash_alg_ok count status) (same, inr one) = (same, inr (record { id = one.id; algorithm = one.algorithm; outcome = one.outcome }))
 job_blind name o c (Polls p) (Poll ids_ok) k = k
@@ -117,7 +117,7 @@ checked_blind h m c k = record { owner = k.owner; protection = protected_blind h
 
 for_job_blind : (h : History) (m : Facts) (c : Checked) (job : Job) → IsForJob h m c job → IsForJob h (blind_facts m) c job
 for_job_blind h m c Repeat k = k
-for_job_blind h m c (Enrol body wish old) k = checked_blind h m c k
+for_job_blind h m c (Enrol body wish) k = checked_blind h m c k
 for_job_blind h m c (Confirm id_ok hash hash_alg_ok count status) k = checked_blind h m c k
 for_job_blind h m c (Poll ids_ok) k = checked_blind h m c k
 for_job_blind h m c (Withdraw serial reason) k = checked_blind h m c k

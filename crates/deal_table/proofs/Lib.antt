@@ -7,7 +7,6 @@ pub mod Split
 pub mod Later
 pub mod Blind
 pub mod Sends
-pub mod Served
 pub mod Made
 pub mod Senders
 pub mod Forms
@@ -15,3 +14,4 @@ pub mod Allowed
 pub mod Deals
 pub mod Looked
 pub mod Examples
+pub mod Stamped

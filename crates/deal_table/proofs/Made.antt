@@ -6,7 +6,7 @@ use Rattle.deal_model.specs.declared.states.Owner.{Owner}
 use Rattle.deal_model.specs.declared.states.Standing.{Standing}
 use Rattle.deal_model.specs.declared.states.Standing.TheVariants.{Unknown, OtherKind, Barred, Good}
 use Rattle.deal_model.specs.Views.{History}
-use Rattle.cmp_ports.specs.declared.fail_info.FailInfo.{FailInfo}
+use Rattle.cmp_values.specs.declared.fail_info.FailInfo.{FailInfo}
 use Rattle.deal_table.specs.History.{skew_of, place_of_digest, event_time}
 use Rattle.deal_table.specs.Message.{is_nested, Facts, Letter, subject_of}
 use Rattle.deal_table.specs.Table.{Row, To, Decision, Makes, Repeats, Refuses, Event, unless, pass, bare, guarded, known, protection_rows, check_rows, time_rows, standing_now, trusted, form_rows, header_rows, served_rows, wrap_rows, about, repeated, passed, read, opened, decision}

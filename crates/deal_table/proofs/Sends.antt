@@ -14,7 +14,7 @@ use Rattle.deal_model.specs.declared.states.Owner.{Owner}
 use Rattle.deal_model.specs.declared.states.Standing.{Standing}
 use Rattle.deal_model.specs.declared.states.Standing.TheVariants.{Unknown, OtherKind, Barred, Good}
 use Rattle.deal_model.specs.Views.{History, is_told, time_of}
-use Rattle.cmp_ports.specs.declared.fail_info.FailInfo.{FailInfo}
+use Rattle.cmp_values.specs.declared.fail_info.FailInfo.{FailInfo}
 use Rattle.deal_table.specs.History.{Receipted, Deal, Begins, name_of, skew_of, place_of_digest, event_time, grant_receipt, owner_for, standing_for}
 use Rattle.deal_table.specs.Message.{Compares, Confirmation, Body, Enrols, Confirms, Polls, Withdraws, Nests, OtherBody, is_nested, Header, Facts, Letter, subject_of, blind}
 use Rattle.deal_table.specs.Table.{Row, To, Decision, Makes, Repeats, Refuses, Asks, Event, Sent, unless, bare, guard_by, guarded, known, protection_rows, check_rows, time_rows, standing_now, trusted_by, trusted, old_rows, new_rows, party_rows, confirm_rows, poll_rows, entry_rows, reason_rows, revoke_rows, wish_rows, key_rows, proof_rows, is_possessed, enrolled, polled, poll_made, deal_certificate, state_now, deal_now, tid_of, status_rows, compared, compared_with, settles, stamp_by, room_rows, made, about, repeated, passed, served_rows, form_rows, header_rows, wrap_rows, read, opened, decision}
@@ -156,7 +156,7 @@ by_owner m c h t outer k e u g =
 inner_goes : (m : Facts) (c : Checked) (h : History) (t : ℕ) (outer : Option (Kind × List ℕ)) (job : Job) → IsForJob h m c job → m.digest ≡ c.ask.digest → m.header ≡ header_by c
     → place_of_digest h c.ask.digest ≡ None → (u : Owner) → standing_for h c.ask.kind c.ask.kid t ≡ Good u.who u.key u.rights → IsCarriedAs c outer (record { outer = false; guard = guard_by c.ask.kind c.ask.kid u })
 inner_goes m c h t outer Repeat k d e new u g = absurd (none-some k.0 (sym new ∙ subst (λ (digest : List ℕ). place_of_digest h digest ≡ Some k.0) d k.1))
-inner_goes m c h t outer (Enrol body wish old) k d e new u g = by_owner m c h t outer k e u g
+inner_goes m c h t outer (Enrol body wish) k d e new u g = by_owner m c h t outer k e u g
 inner_goes m c h t outer (Confirm id_ok hash hash_alg_ok count status) k d e new u g = by_owner m c h t outer k e u g
 inner_goes m c h t outer (Poll ids_ok) k d e new u g = by_owner m c h t outer k e u g
 inner_goes m c h t outer (Withdraw serial reason) k d e new u g = by_owner m c h t outer k e u g
@@ -183,7 +183,7 @@ left_sends l c looked h now w fail to carried b e =
 
 stale_asks : (h : History) (c : Checked) (job : Job) → MayAsk (λ n. (c.hash_ok ≡ None) × (is_confirm_job job ≡ true) × (r : Receipted) × (grant_receipt h c.ask.tid ≡ Some r) × (r.place ≡ n)) h c.ask.tid (rest_body (name_of h) c job)
 stale_asks h c Repeat = tt
-stale_asks h c (Enrol body wish old) = tt
+stale_asks h c (Enrol body wish) = tt
 stale_asks h c (Confirm id_ok hash hash_alg_ok count status) = λ r e f. (f, refl, r, e, refl)
 stale_asks h c (Poll ids_ok) = tt
 stale_asks h c (Withdraw serial reason) = tt

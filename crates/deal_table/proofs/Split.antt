@@ -6,7 +6,7 @@ use Rattle.deal_model.specs.declared.asking.Job.TheVariants.{Repeat, Enrol, Conf
 use Rattle.deal_model.specs.declared.asking.Checked.{Checked}
 use Rattle.deal_model.specs.declared.states.Owner.{Owner}
 use Rattle.deal_model.specs.Views.{History, is_barred}
-use Rattle.cmp_ports.specs.declared.fail_info.FailInfo.TheVariants.{BadRequest, BadTime, NotAuthorized}
+use Rattle.cmp_values.specs.declared.fail_info.FailInfo.TheVariants.{BadRequest, BadTime, NotAuthorized}
 use Rattle.deal_table.specs.History.{name_of, skew_of, place_of_digest, event_time, owner_for}
 use Rattle.deal_table.specs.Message.{Body, is_nested, Header, Facts, Letter, subject_of}
 use Rattle.deal_table.specs.Table.{To, Decision, Refuses, Repeats, Event, unless, pass, bare, guard_by, guarded, is_apart, form_rows, header_rows, is_served, time_rows, trusted, about, repeated, passed, nested_count, wrap_rows, may_wrap, read, opened, decision}
@@ -55,7 +55,7 @@ repeated_passed v m place e = rw e refl
 
 passed_same : (v : Event) (m : Facts) (c : Checked) (job : Job) → IsForJob v.history m c job → m.digest ≡ c.ask.digest → m.header ≡ header_by c → Tells v.history c.ask.tid c.hash_ok m.body → passed v m ≡ passed v (rest_facts (name_of v.history) c)
 passed_same v m c Repeat k d e told = repeated_passed v m k.0 k.1 ∙ sym (repeated_passed v (rest_facts (name_of v.history) c) k.0 (subst (λ (digest : List ℕ). place_of_digest v.history digest ≡ Some k.0) d k.1))
-passed_same v m c (Enrol body wish old) k d e told = checked_passed v m c k d e told
+passed_same v m c (Enrol body wish) k d e told = checked_passed v m c k d e told
 passed_same v m c (Confirm id_ok hash hash_alg_ok count status) k d e told = checked_passed v m c k d e told
 passed_same v m c (Poll ids_ok) k d e told = checked_passed v m c k d e told
 passed_same v m c (Withdraw serial reason) k d e told = checked_passed v m c k d e told
@@ -92,7 +92,7 @@ opened_plain v l plain = rw plain refl
 
 pub rest_plain : (name : List ℕ) (c : Checked) (job : Job) → is_nested (rest_body name c job) ≡ false
 rest_plain name c Repeat = refl
-rest_plain name c (Enrol body wish old) = refl
+rest_plain name c (Enrol body wish) = refl
 rest_plain name c (Confirm id_ok hash hash_alg_ok count status) = refl
 rest_plain name c (Poll ids_ok) = refl
 rest_plain name c (Withdraw serial reason) = refl

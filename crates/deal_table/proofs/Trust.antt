@@ -5,7 +5,7 @@ use Rattle.deal_changes.specs.declared.change.Kind.{Kind}
 use Rattle.deal_model.specs.declared.states.Owner.{Owner}
 use Rattle.deal_model.specs.declared.states.Standing.TheVariants.{Barred, Good}
 use Rattle.deal_model.specs.Views.{History, owner_of, is_barred, standing_of}
-use Rattle.cmp_ports.specs.declared.fail_info.FailInfo.TheVariants.{BadAlg, BadMessageCheck, NotAuthorized}
+use Rattle.cmp_values.specs.declared.fail_info.FailInfo.TheVariants.{BadAlg, BadMessageCheck, NotAuthorized}
 use Rattle.deal_table.specs.History.{skew_of, owner_for, standing_for}
 use Rattle.deal_table.specs.Message.{Facts}
 use Rattle.deal_table.specs.Table.{To, Decision, Refuses, unless, bare, guarded, known, check_rows, time_rows, trusted}

@@ -34,7 +34,7 @@ rest_withdrawal name serial reason = record { is_one = true; reason = Some reaso
 
 abbrev pub rest_body : List ℕ → Checked → Job → Body
 rest_body name c Repeat = OtherBody
-rest_body name c (Enrol body wish old) = Enrols (rest_enrolment body wish c.proven)
+rest_body name c (Enrol body wish) = Enrols (rest_enrolment body wish c.proven)
 rest_body name c (Confirm id_ok hash hash_alg_ok count status) = Confirms (record { count = count; id = id_by id_ok c.minus_one; status = status; has_known_hash = hash_alg_ok; matches = λ r. c.hash_ok })
 rest_body name c (Poll ids_ok) = Polls (record { is_one = ids_ok; id = id_by true c.minus_one })
 rest_body name c (Withdraw serial reason) = Withdraws (rest_withdrawal name serial reason)
@@ -90,7 +90,7 @@ is_other OtherId = true
 -- The job is what the body is about, under this sender and this name of the authority; of a request and an rr the rows that ask
 -- neither for keys nor for certificates of the history pass. Where a certConf has no status nothing else of it is asked.
 abbrev pub IsJob : List ℕ → Owner → Checked → Body → Job → Type 0
-IsJob name o c (Enrols e) (Enrol body wish old) = (pass (wish_rows name o e) ≡ true) × (e.body ≡ body) × (e.wish ≡ wish) × (is_possessed o e ≡ c.proven)
+IsJob name o c (Enrols e) (Enrol body wish) = (pass (wish_rows name o e) ≡ true) × (e.body ≡ body) × (e.wish ≡ wish) × (is_possessed o e ≡ c.proven)
 IsJob name o c (Confirms f) (Confirm id_ok hash hash_alg_ok count status) = (f.count ≡ count) × ((count ≡ 0) ⊎ IsStatus f id_ok c.minus_one hash_alg_ok status)
 IsJob name o c (Polls p) (Poll ids_ok) = ((p.is_one && not (is_other p.id)) ≡ ids_ok) × (ids_ok ≡ true → p.id ≡ id_by true c.minus_one)
 IsJob name o c (Withdraws w) (Withdraw serial reason) = (pass (reason_rows name w) ≡ true) × (w.certificate.serial ≡ serial) × (w.reason ≡ Some reason)
@@ -107,7 +107,7 @@ pub record IsChecked (h : History) (m : Facts) (c : Checked) : Type 0 where
 -- of a message that is repeated only that it stands in the history is asked
 abbrev pub IsForJob : History → Facts → Checked → Job → Type 0
 IsForJob h m c Repeat = (place : ℕ) × (place_of_digest h m.digest ≡ Some place)
-IsForJob h m c (Enrol body wish old) = IsChecked h m c
+IsForJob h m c (Enrol body wish) = IsChecked h m c
 IsForJob h m c (Confirm id_ok hash hash_alg_ok count status) = IsChecked h m c
 IsForJob h m c (Poll ids_ok) = IsChecked h m c
 IsForJob h m c (Withdraw serial reason) = IsChecked h m c
@@ -139,7 +139,7 @@ pub record Carries (l : Letter) (c : Checked) (h : History) : Type 0 where
 -- the job can be spelled
 abbrev pub FitsJob : Job → Type 0
 FitsJob Repeat = Unit {0}
-FitsJob (Enrol body wish old) = IsWish wish
+FitsJob (Enrol body wish) = IsWish wish
 FitsJob (Confirm id_ok hash hash_alg_ok count status) = Unit {0}
 FitsJob (Poll ids_ok) = Unit {0}
 FitsJob (Withdraw serial reason) = reason < 2 ^ 8
@@ -181,7 +181,7 @@ IsAnswer (Asks place) = ⊥
 
 abbrev pub is_confirm_job : Job → Bool
 is_confirm_job Repeat = false
-is_confirm_job (Enrol body wish old) = false
+is_confirm_job (Enrol body wish) = false
 is_confirm_job (Confirm id_ok hash hash_alg_ok count status) = true
 is_confirm_job (Poll ids_ok) = false
 is_confirm_job (Withdraw serial reason) = false

@@ -19,6 +19,7 @@ use Rattle.deal_model.specs.declared.asking.Brief.{Brief}
 use Rattle.deal_model.specs.declared.states.Owner.{Owner}
 use Rattle.deal_model.specs.declared.states.Standing.{Standing}
 use Rattle.deal_model.specs.declared.states.Standing.TheVariants.{Unknown}
+use Rattle.deal_model.specs.Limits.{most_changes}
 use Rattle.deal_model.specs.Keys.{key_of}
 use Rattle.deal_model.specs.Views.{History, time_of, founding, settings_of, is_grant_for, is_hold_for, is_grant_of, has_digest, owner_of, standing_of, transaction_state}
 use Rattle.deal_model.specs.Rules.{size_of, log_size}
@@ -121,7 +122,7 @@ standing_for h None kid t = Unknown
 
 -- 262,144 changes stand, or the log with this one would have more than 2 ^ 30 octets
 abbrev pub is_full : History → Change → Bool
-is_full h c = nat_le 262144 (length h) || nat_lt (2 ^ 30) (log_size h + size_of c)
+is_full h c = nat_le most_changes (length h) || nat_lt (2 ^ 30) (log_size h + size_of c)
 
 -- ---- the look
 

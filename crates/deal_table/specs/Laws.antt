@@ -1,10 +1,10 @@
 -- What holds of a history's answers and of the table.
-use Rattle.std.specs.Prelude.{◌≡◌, ◌⊎◌, ℕ, ◌≤◌, Bool, false, not, List, [], ◌++◌, length, Option, Some, None, is_some, find}
+use Rattle.std.specs.Prelude.{◌≡◌, ◌⊎◌, ℕ, ◌≤◌, Bool, true, false, not, List, [], ◌++◌, length, Option, Some, None, is_some, find}
 use Rattle.std.specs.List.{list_any}
 use Rattle.deal_changes.specs.declared.change.Kind.{Kind}
 use Rattle.deal_changes.specs.declared.change.Settings.{Settings}
 use Rattle.deal_changes.specs.declared.change.Change.{Change}
-use Rattle.deal_changes.specs.Times.{time_of_change, tid_of}
+use Rattle.deal_changes.specs.Times.{time_of_change, tid_of, stamp_of}
 use Rattle.deal_model.specs.declared.states.Owner.{Owner}
 use Rattle.deal_model.specs.Views.{History, same, founding, transaction_state}
 use Rattle.deal_model.specs.Rules.{Allowed, Legal}
@@ -13,11 +13,10 @@ use Rattle.deal_model.specs.declared.asking.Checked.{Checked}
 use Rattle.deal_model.specs.declared.states.Standing.TheVariants.{Good}
 use Rattle.deal_table.specs.Looked.{IsAskOf, IsRefusedByLook, looked_to}
 use Rattle.deal_table.specs.declared.look.Look.{Look}
-use Rattle.cmp_ports.specs.declared.fail_info.FailInfo.{FailInfo}
+use Rattle.cmp_values.specs.declared.fail_info.FailInfo.{FailInfo}
 use Rattle.deal_table.specs.History.{Receipted, IsFounded, secret_of, Begins, name_of, look_of, deal_of, place_of, owner_for, event_time, receipt_at, grant_receipt}
 use Rattle.deal_table.specs.Message.{Compares, FitsMessage, Letter, subject_of, blind}
 use Rattle.deal_table.specs.Table.{To, Decision, is_unused, is_deal, Makes, Refuses, Asks, decision}
-use Rattle.deal_table.specs.Served.{decision_so_far, IsServedSoFar}
 use Rattle.deal_table.specs.Carry.{left, FitsChecked, Carries, untold, HashIsTold, as_told, IsAnswer, IsStale, carried_to}
 
 -- ---- what a history has settled stands in each later one
@@ -109,6 +108,14 @@ abbrev pub LeftMakesTheAllowed : Type 0
 LeftMakesTheAllowed = (h : History) (k : Checked) (now : ℕ) (w : List ℕ) (c : Change) → Legal h → FitsChecked k → now ≤ 250000000000 → length w ≡ 32 → left h k now w ≡ Makes c
     → Allowed h c × (time_of_change c ≡ event_time h now)
 
+-- A change that the table makes has the stamp of a message: it is no Found, Enlist, Dismiss, Release, Deny or Lapse.
+abbrev pub MakesTheStamped : Type 0
+MakesTheStamped = (h : History) (l : Letter) (now : ℕ) (w : List ℕ) (c : Change) → decision h l now w ≡ Makes c → is_some (stamp_of c) ≡ true
+
+-- so has a change that what is left of a message makes
+abbrev pub LeftMakesTheStamped : Type 0
+LeftMakesTheStamped = (h : History) (k : Checked) (now : ℕ) (w : List ℕ) (c : Change) → left h k now w ≡ Makes c → is_some (stamp_of c) ≡ true
+
 -- ---- what legal histories say
 
 -- the service was founded, under a name that is one common name
@@ -142,9 +149,3 @@ DealHasGrantOrHold = (h : History) (tid : List ℕ) → Legal h → is_deal (tra
 -- what protects the reply to a sender is its credential's secret or key, in each later history too
 abbrev pub SecretIsTheOwners : Type 0
 SecretIsTheOwners = (h more : History) (kind : Option Kind) (kid : List ℕ) (o : Owner) → Legal h → owner_for h kind kid ≡ Some o → secret_of (h ++ more) o.who ≡ o.key
-
--- ---- what is served so far
-
--- a message that is served so far is decided by the whole table
-abbrev pub ServedIsWhole : Type 0
-ServedIsWhole = (h : History) (l : Letter) (now : ℕ) (w : List ℕ) → IsServedSoFar h l → decision_so_far h l now w ≡ decision h l now w

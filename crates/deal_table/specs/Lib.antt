@@ -2,6 +2,5 @@ pub mod History
 pub mod Message
 pub mod Table
 pub mod Looked
-pub mod Served
 pub mod Carry
 pub mod Laws

@@ -5,8 +5,8 @@ use Rattle.deal_model.specs.declared.asking.Ask.{Ask}
 use Rattle.deal_model.specs.declared.states.Owner.{Owner}
 use Rattle.deal_model.specs.declared.states.Standing.{Standing}
 use Rattle.deal_model.specs.declared.states.Standing.TheVariants.{Unknown, OtherKind, Barred, Good}
-use Rattle.cmp_ports.specs.declared.fail_info.FailInfo.{FailInfo}
-use Rattle.cmp_ports.specs.declared.fail_info.FailInfo.TheVariants.{BadRequest}
+use Rattle.cmp_values.specs.declared.fail_info.FailInfo.{FailInfo}
+use Rattle.cmp_values.specs.declared.fail_info.FailInfo.TheVariants.{BadRequest}
 use Rattle.deal_table.specs.declared.look.Look.{Look}
 use Rattle.deal_table.specs.Message.{Body, Enrols, Confirms, Polls, Withdraws, Nests, OtherBody, is_nested, Facts, Letter, subject_of}
 use Rattle.deal_table.specs.Table.{Secret, To, Decision, Refuses, unless, bare, guarded, trusted_by, tid_of, served_rows, new_rows, old_rows, wish_rows, reason_rows, wrap_rows, repeated, read}

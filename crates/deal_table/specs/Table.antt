@@ -21,10 +21,10 @@ use Rattle.deal_model.specs.declared.states.Owner.{Owner}
 use Rattle.deal_model.specs.declared.states.Standing.{Standing}
 use Rattle.deal_model.specs.declared.states.Standing.TheVariants.{Unknown, OtherKind, Barred, Good}
 use Rattle.deal_model.specs.Keys.{leaves_of, key_id, key_of}
-use Rattle.deal_model.specs.Views.{History, same, settings_of, is_grant_for, is_grant_of, is_confirmed, is_key_taken, certificate_state, transaction_state, is_told, last_nonce, leaves_used, leaves_in}
+use Rattle.deal_model.specs.Views.{History, same, settings_of, is_grant_for, is_grant_of, is_confirmed, is_key_taken, certificate_state, transaction_state, is_told, last_nonce, leaves_used, taken_leaves}
 use Rattle.deal_model.specs.Rules.{same_who, has_right, is_granted_to, reply_leaf}
-use Rattle.cmp_ports.specs.declared.fail_info.FailInfo.{FailInfo}
-use Rattle.cmp_ports.specs.declared.fail_info.FailInfo.TheVariants.{BadAlg, BadMessageCheck, BadRequest, BadTime, BadCertId, BadDataFormat, BadPop, CertRevoked, CertConfirmed, WrongIntegrity, BadRecipientNonce, BadSenderNonce, BadCertTemplate, SignerNotTrusted, TransactionIdInUse, UnsupportedVersion, NotAuthorized, SystemUnavail, DuplicateCertReq}
+use Rattle.cmp_values.specs.declared.fail_info.FailInfo.{FailInfo}
+use Rattle.cmp_values.specs.declared.fail_info.FailInfo.TheVariants.{BadAlg, BadMessageCheck, BadRequest, BadTime, BadCertId, BadDataFormat, BadPop, CertRevoked, CertConfirmed, WrongIntegrity, BadRecipientNonce, BadSenderNonce, BadCertTemplate, SignerNotTrusted, TransactionIdInUse, UnsupportedVersion, NotAuthorized, SystemUnavail, DuplicateCertReq}
 use Rattle.deal_table.specs.History.{Receipted, Deal, name_of, skew_of, place_of_digest, deal_of, grant_receipt, event_time, standing_for, is_full}
 use Rattle.deal_table.specs.Message.{RequestId, Zero, MinusOne, OtherId, Named, Enrolment, Confirmation, Polling, Withdrawal, Body, Enrols, Confirms, Polls, Withdraws, Nests, OtherBody, is_nested, is_version, Header, Facts, Letter}
 
@@ -170,11 +170,14 @@ guard_by None kid o = None
 abbrev pub guarded : Bool → Facts → Owner → To
 guarded outer m o = record { outer = outer; guard = guard_by m.header.kind m.header.kid o }
 
--- protection, sender and time of a message, the outer one or the one that is about something
+-- protection and sender of a message, the outer one or the one that is about something
+abbrev pub proven_by : Standing → Bool → Facts → (Owner → Decision) → Decision
+proven_by standing outer m next = unless (bare outer) (protection_rows m)
+    (known (bare outer) standing (λ o. unless (bare outer) (check_rows m o) (next o)))
+
+-- the same, and then its time
 abbrev pub trusted_by : Standing → ℕ → ℕ → Bool → Facts → (Owner → Decision) → Decision
-trusted_by standing skew t outer m next = unless (bare outer) (protection_rows m)
-    (known (bare outer) standing (λ o. unless (bare outer) (check_rows m o)
-    (unless (guarded outer m o) (time_rows m skew t) (next o))))
+trusted_by standing skew t outer m next = proven_by standing outer m (λ o. unless (guarded outer m o) (time_rows m skew t) (next o))
 
 abbrev pub trusted : History → ℕ → Bool → Facts → (Owner → Decision) → Decision
 trusted h t outer m next = trusted_by (standing_now h t m) (skew_of h) t outer m next
@@ -254,7 +257,7 @@ is_past_key h (Reply, leaf) = nat_le (leaves_of (settings_of h).reply_key) leaf
 
 -- a leaf is needed and all are used, or the journal is full
 abbrev pub room_rows : History → Change → List Row
-room_rows h c = (SystemUnavail when list_any (is_past_key h) (leaves_in c) || is_full h c) ∷ []
+room_rows h c = (SystemUnavail when list_any (is_past_key h) (taken_leaves c) || is_full h c) ∷ []
 
 abbrev pub made : Event → Sent → Change → Decision
 made v s c = unless s.to (room_rows v.history c) (Makes c)

@@ -1,5 +1,5 @@
 //! Laws of the table, each the contract of a function that does nothing.
-ghost use Rattle.deal_table.specs.Laws.{SettingsStay, OwnersStay, FirstsStay, PlacesStay, ReceiptsStay, GrantReceiptsStay, LeftAnswers, LeftAsks, IsDecidedByTheRest, DecidesOrAsks, RefusesToTheCarried, ComparedNeverAsks, DecidesByTheTime, LookRefuses, RefusesToTheLooked, LookTellsTheOwner, LookTellsTheOuterOwner, MakesTheAllowed, LeftMakesTheAllowed, UnusedHasNoChange, DealHasGrantOrHold, LegalIsFounded, EventsAreTimely, NobodyIsUnnamed, SecretIsTheOwners, ServedIsWhole};
+ghost use Rattle.deal_table.specs.Laws.{SettingsStay, OwnersStay, FirstsStay, PlacesStay, ReceiptsStay, GrantReceiptsStay, LeftAnswers, LeftAsks, IsDecidedByTheRest, DecidesOrAsks, RefusesToTheCarried, ComparedNeverAsks, DecidesByTheTime, LookRefuses, RefusesToTheLooked, LookTellsTheOwner, LookTellsTheOuterOwner, MakesTheAllowed, LeftMakesTheAllowed, MakesTheStamped, LeftMakesTheStamped, UnusedHasNoChange, DealHasGrantOrHold, LegalIsFounded, EventsAreTimely, NobodyIsUnnamed, SecretIsTheOwners};
 
 /// What a history has settled stands in each later one: what the service was founded with; to whom a credential belongs; the
 /// first change of any sort, and its place; what the reply to a change needs.
@@ -35,10 +35,13 @@ pub fn what_a_look_tells()
 {}
 
 /// What the table makes may come next in the history, at the event's time: it has a spelling, there is room for it, and the
-/// rule of its kind holds. So does what is made of what was checked.
+/// rule of its kind holds. It has the stamp of a message, so it is none of an operator's changes, no order and no Lapse. So does
+/// what is made of what was checked.
 pub fn what_is_made_is_allowed()
     ensures decided { MakesTheAllowed }
     ensures left { LeftMakesTheAllowed }
+    ensures stamped { MakesTheStamped }
+    ensures left_stamped { LeftMakesTheStamped }
 {}
 
 /// What the rows say of a legal history: a transaction is unused exactly where no change has its transactionID; a request began
@@ -51,9 +54,4 @@ pub fn what_legal_histories_say()
     ensures time { EventsAreTimely }
     ensures nobody { NobodyIsUnnamed }
     ensures secret { SecretIsTheOwners }
-{}
-
-/// A message that is served so far is decided by the whole table.
-pub fn what_is_served_is_whole()
-    ensures { ServedIsWhole }
 {}

@@ -7,9 +7,11 @@
 
 mod laws;
 mod look;
+mod shared;
 
 pub use laws::{
-    what_a_look_tells, what_is_left_decides, what_is_made_is_allowed, what_is_served_is_whole,
-    what_is_settled_stays, what_legal_histories_say,
+    what_a_look_tells, what_is_left_decides, what_is_made_is_allowed, what_is_settled_stays,
+    what_legal_histories_say,
 };
 pub use look::Look;
+pub use shared::{is_apart, is_deal, is_unused, may};

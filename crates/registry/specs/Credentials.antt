@@ -12,8 +12,10 @@ use Rattle.registry.specs.declared.fault.CredCause.{CredCause}
 use Rattle.registry.specs.declared.fault.CredCause.TheVariants as causes
 use Rattle.registry.specs.declared.fault.RegFault.{RegFault}
 use Rattle.registry.specs.declared.fault.RegFault.TheVariants.{BadCount, BadCredential}
+use Rattle.registry.specs.declared.forms.Kinds.{Kinds}
+use Rattle.registry.specs.declared.forms.Kinds.TheVariants.{MacOrLms, MacAlone}
 use Rattle.registry.specs.Words.{cause_word}
-use Rattle.registry.specs.Forms.{text_in, hex_in, kind_in, key_in, rights_in, hold_in, tables_in, has_only}
+use Rattle.registry.specs.Forms.{text_in, hex_in, kind_among, key_in, rights_in, hold_in, tables_in, has_only}
 use Rattle.registry.specs.Files.{◌>>=◌, told, file_in}
 
 -- ---- one credential
@@ -26,9 +28,9 @@ value_of key t = get_member (cause_word key) t
 abbrev pub needed : {X : Type 0} → CredCause → (Data → Option X) → Members → Result X CredCause
 needed key form t = ok_or (option_and_then form (value_of key t)) key
 
--- the kind that a table tells
-abbrev pub kind_told : Members → Option Kind
-kind_told t = option_and_then kind_in (value_of causes.Kind t)
+-- the kind that a table tells, of these
+abbrev pub kind_told : Kinds → Members → Option Kind
+kind_told kinds t = option_and_then (kind_among kinds) (value_of causes.Kind t)
 
 -- the keys of a table of this kind; those of both kinds where it tells none
 abbrev pub keys_for : Option Kind → List (List ℕ)
@@ -37,8 +39,8 @@ keys_for (Some Lms) = codes "kind" ∷ codes "key" ∷ codes "rights" ∷ codes 
 keys_for None = codes "kind" ∷ codes "reference" ∷ codes "secret" ∷ codes "key" ∷ codes "rights" ∷ codes "hold" ∷ []
 
 -- a table has only keys of its kind
-abbrev pub known : Members → Result (Unit {0}) CredCause
-known t = if has_only (keys_for (kind_told t)) t then Ok tt else Err causes.Unknown
+abbrev pub known : Kinds → Members → Result (Unit {0}) CredCause
+known kinds t = if has_only (keys_for (kind_told kinds t)) t then Ok tt else Err causes.Unknown
 
 -- the identifier and the secret or key: a reference is told, a key has its own identifier
 abbrev pub material_of : Kind → Members → Result (List ℕ × List ℕ) CredCause
@@ -50,11 +52,11 @@ material_of Lms t = do
   key ← needed causes.Key key_in t
   Ok (key_id key, key)
 
--- The credential of a table, or the first cause at fault, by this order.
-unfoldable pub credential_of : Members → Result Credential CredCause
-credential_of t = do
-  all_known ← known t
-  kind ← needed causes.Kind kind_in t
+-- The credential of a table, of one of these kinds, or the first cause at fault, by this order.
+unfoldable pub credential_of : Kinds → Members → Result Credential CredCause
+credential_of kinds t = do
+  all_known ← known kinds t
+  kind ← needed causes.Kind (kind_among kinds) t
   material ← material_of kind t
   rights ← needed causes.Rights rights_in t
   hold ← ok_or (hold_in (value_of causes.Hold t)) causes.Hold
@@ -67,15 +69,15 @@ abbrev pub new : List Credential → Credential → Result Credential CredCause
 new before c = if list_any (is_entry c.kind c.kid) before then Err causes.Duplicate else Ok c
 
 -- the credential of a table that stands behind these
-abbrev pub next_of : List Credential → Members → Result Credential CredCause
-next_of before t = credential_of t >>= new before
+abbrev pub next_of : Kinds → List Credential → Members → Result Credential CredCause
+next_of kinds before t = credential_of kinds t >>= new before
 
 -- the credentials of tables, behind these; the index of a credential counts from 0
-unfoldable pub behind : List Credential → List Members → Result (List Credential) RegFault
-behind before [] = Ok before
-behind before (t ∷ more) = do
-  c ← told (BadCredential (length before)) (next_of before t)
-  behind (before ++ c ∷ []) more
+unfoldable pub behind : Kinds → List Credential → List Members → Result (List Credential) RegFault
+behind kinds before [] = Ok before
+behind kinds before (t ∷ more) = do
+  c ← told (BadCredential (length before)) (next_of kinds before t)
+  behind kinds (before ++ c ∷ []) more
 
 -- the array `credential`, where no other key stands beside it
 unfoldable pub listed : Members → Option (List Members)
@@ -83,11 +85,15 @@ listed t = if has_only (codes "credential" ∷ []) t then option_and_then (table
 
 -- the credentials of a table, or the first fault
 unfoldable pub credentials_of : Members → Result (List Credential) RegFault
-credentials_of t = ok_or (listed t) BadCount >>= behind []
+credentials_of t = ok_or (listed t) BadCount >>= behind MacOrLms []
 
 -- the credentials of a file
 abbrev pub credentials_in : List ℕ → Result (List Credential) RegFault
 credentials_in file = file_in credentials_of file
+
+-- the credentials of kind mac alone in the array `credential` of a table, whatever other keys stand beside it, or the first fault
+unfoldable pub macs_in : Members → Result (List Credential) RegFault
+macs_in t = ok_or (option_and_then (tables_in 1 256) (get_member (codes "credential") t)) BadCount >>= behind MacAlone []
 
 -- ---- what is read
 

@@ -1,5 +1,5 @@
 -- The forms of a value in a file (TOML 1.1). Each says what a value of the form gives; a value of another form gives nothing.
-use Rattle.std.specs.Prelude.{ℕ, ◌+◌, ◌*◌, ℤ, pos, negsuc, Bool, false, ◌&&◌, ◌==◌, nat_le, List, [], ◌∷◌, length, Option, Some, None, option_map, count_by, codes, if◌then◌else◌}
+use Rattle.std.specs.Prelude.{◌≡◌, ℕ, ◌+◌, ◌*◌, ℤ, pos, negsuc, Bool, false, ◌&&◌, ◌==◌, nat_le, List, [], ◌∷◌, length, Option, Some, None, option_map, count_by, codes, if◌then◌else◌}
 use Rattle.std.specs.List.{list_any, list_all}
 use Rattle.std.specs.Result.{result_ok}
 use Rattle.std.specs.Str.{bytes_eq}
@@ -8,6 +8,8 @@ use Rattle.toml.specs.Data.{Data, Items, no_items, item, string, Members, no_mem
 use Rattle.deal_changes.specs.Bind.{◌>>=◌}
 use Rattle.deal_changes.specs.declared.change.Kind.{Kind}
 use Rattle.deal_changes.specs.declared.change.Kind.TheVariants.{Mac, Lms}
+use Rattle.registry.specs.declared.forms.Kinds.{Kinds}
+use Rattle.registry.specs.declared.forms.Kinds.TheVariants.{MacOrLms, MacAlone}
 use Rattle.deal_model.specs.Keys.{levels_of, tree_of, ots_of}
 
 -- ---- texts, numbers and octets
@@ -48,6 +50,20 @@ kind_of word = if bytes_eq word (codes "mac") then Some Mac else (if bytes_eq wo
 -- how a credential protects a message
 abbrev pub kind_in : Data → Option Kind
 kind_in d = as_str d >>= kind_of
+
+-- the kind, where it is one of these
+abbrev pub of_kinds : Kinds → Kind → Option Kind
+of_kinds MacOrLms kind = Some kind
+of_kinds MacAlone Mac = Some Mac
+of_kinds MacAlone Lms = None
+
+-- how a credential of one of these kinds protects a message
+abbrev pub kind_among : Kinds → Data → Option Kind
+kind_among kinds d = kind_in d >>= of_kinds kinds
+
+-- one of these kinds
+abbrev pub IsAmong : Kinds → Kind → Type 0
+IsAmong kinds kind = of_kinds kinds kind ≡ Some kind
 
 -- a key has 1 to 8 levels, and known types of its first tree and of that tree's one-time signatures (RFC 8554, 5.1, 4.1 and 6)
 abbrev pub has_known_types : List ℕ → Bool

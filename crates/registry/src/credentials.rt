@@ -1,26 +1,24 @@
 //! The credentials that an operator lists.
-ghost use Rattle.std.specs.Prelude.{◌≡◌, ◌≢◌, ◌<◌, ◌≤◌, Ok, Err, false, [], option_map, option_and_then, map, ok_or, length, IfOk, IfErr, IfSome, IsSome, IsTrue};
-ghost use Rattle.std.specs.List.{list_any};
+ghost use Rattle.std.specs.Prelude.{◌≡◌, ◌≢◌, ◌<◌, ◌≤◌, Ok, Err, false, [], option_map, option_and_then, map, ok_or, length, codes, IfOk, IfErr, IfSome, IsSome, IsTrue};
+ghost use Rattle.std.specs.List.{list_any, AllByRecursion};
 ghost use Rattle.std.specs.Str.{is_utf8};
 ghost use Rattle.deal_model.specs.Keys.{key_id};
 ghost use Rattle.deal_model.specs.Rules.{IsListedKey, IsNamed};
+ghost use Rattle.toml.specs.Data.{get_member};
 ghost use Rattle.toml.specs.View.{view, items_view, table_view};
-ghost use Rattle.registry.specs.Forms.{text_in, hex_in, kind_in, key_in, rights_in, hold_in, data_of, tables_of};
+ghost use Rattle.registry.specs.Forms.{IsAmong, text_in, hex_in, key_in, rights_in, hold_in, data_of, tables_of, tables_in};
 ghost use Rattle.registry.specs.Files.{Gives};
-ghost use Rattle.registry.specs.Credentials.{value_of, needed, kind_told, keys_for, known, material_of, credential_of, next_of, behind, listed, credentials_of, credentials_in, AreFit, AreListable};
+ghost use Rattle.registry.specs.Credentials.{value_of, needed, kind_told, keys_for, known, material_of, credential_of, next_of, behind, listed, credentials_of, credentials_in, macs_in, AreFit, AreListable};
 ghost use Rattle.deal_model.specs.Views.{same_kind, is_entry};
 
 use crate::fault::{CredCause, RegFault};
 use crate::file::{has_only, read_table, value_at};
-use crate::forms::{hex_in, key_in, kind_in, rights_in, tables_in, text_in};
-use cmp_ports::Short;
+use crate::forms::{Kinds, hex_in, key_in, kind_among, rights_in, tables_in, text_in};
+use cmp_values::Short;
 use deal_answers::key_id;
-use deal_model::{Credential, CredentialList, Kind};
+use deal_model::{Credential, CredentialList, HOLD, Kind};
 use std::alloc::Global;
 use toml::{Table, Value};
-
-/// The bit of a credential whose requests wait for an order.
-const HOLD: u8 = 16;
 
 /// What stands at the key of a cause.
 fn value_of(key: CredCause, table: &Table) -> Option<&Value>
@@ -29,11 +27,12 @@ fn value_of(key: CredCause, table: &Table) -> Option<&Value>
     value_at(table, key.word())
 }
 
-/// The kind that a table tells.
-fn kind_told(table: &Table) -> Option<Kind>
-    ensures { result ≡ kind_told (table_view table.now) }
+/// The kind that a table tells, of these.
+fn kind_told(kinds: Kinds, table: &Table) -> Option<Kind>
+    ensures value { result ≡ kind_told kinds (table_view table.now) }
+    ensures among { IfSome result (IsAmong kinds) }
 {
-    kind_in(value_of(CredCause::Kind, table)?)
+    kind_among(kinds, value_of(CredCause::Kind, table)?)
 }
 
 /// The keys of a table of this kind; those of both kinds where it tells none.
@@ -48,10 +47,10 @@ fn keys_for(kind: Option<Kind>) -> &'static [&'static str]
 }
 
 /// Whether a table has only keys of its kind.
-fn known(table: &Table) -> Result<(), CredCause>
-    ensures { result ≡ known (table_view table.now) }
+fn known(kinds: Kinds, table: &Table) -> Result<(), CredCause>
+    ensures { result ≡ known kinds (table_view table.now) }
 {
-    if has_only(keys_for(kind_told(table)), table) {
+    if has_only(keys_for(kind_told(kinds, table)), table) {
         Ok(())
     } else {
         Err(CredCause::Unknown)
@@ -137,15 +136,16 @@ fn hold_of(table: &Table) -> Result<bool, CredCause>
     }
 }
 
-/// The credential of a table.
+/// The credential of a table, of one of these kinds.
 #[tactic(auto, unfolding(crate::specs::Credentials::credential_of))]
-fn credential_of(table: &Table) -> Result<Credential, CredCause>
-    ensures value { result ≡ credential_of (table_view table.now) }
+fn credential_of(kinds: Kinds, table: &Table) -> Result<Credential, CredCause>
+    ensures value { result ≡ credential_of kinds (table_view table.now) }
     ensures form { IfOk result (λ c. IsNamed c.kind c.kid c.material) }
     ensures bound { IfOk result (λ c. c.rights < 32) }
+    ensures among { IfOk result (λ c. IsAmong kinds c.kind) }
 {
-    known(table)?;
-    let Some(kind) = kind_told(table) else {
+    known(kinds, table)?;
+    let Some(kind) = kind_told(kinds, table) else {
         return Err(CredCause::Kind);
     };
     let (kid, material) = material_of(kind, table)?;
@@ -179,13 +179,18 @@ fn stands(before: &[Credential], c: &Credential) -> bool
 }
 
 /// The credential of a table that stands behind these.
-fn next_credential(before: &[Credential], table: &Table) -> Result<Credential, CredCause>
-    ensures value { result ≡ next_of before.now (table_view table.now) }
+fn next_credential(
+    kinds: Kinds,
+    before: &[Credential],
+    table: &Table,
+) -> Result<Credential, CredCause>
+    ensures value { result ≡ next_of kinds before.now (table_view table.now) }
     ensures form { IfOk result (λ c. IsNamed c.kind c.kid c.material) }
     ensures bound { IfOk result (λ c. c.rights < 32) }
+    ensures among { IfOk result (λ c. IsAmong kinds c.kind) }
     ensures new { IfOk result (λ c. list_any (is_entry c.kind c.kid) before.now ≡ false) }
 {
-    let credential = credential_of(table)?;
+    let credential = credential_of(kinds, table)?;
     if stands(before, &credential) {
         Err(CredCause::Duplicate)
     } else {
@@ -194,18 +199,19 @@ fn next_credential(before: &[Credential], table: &Table) -> Result<Credential, C
 }
 
 /// The credentials of the tables that the items are.
-fn list_of(alloc: Global, items: &[Value]) -> Result<Vec<Credential>, RegFault>
+fn list_of(alloc: Global, kinds: Kinds, items: &[Value]) -> Result<Vec<Credential>, RegFault>
     requires { length items.now ≤ 256 }
-    ensures value { IfSome (tables_of (data_of (items_view items.now))) (λ tables. Gives (λ list. list.items) result (behind [] tables)) }
+    ensures value { IfSome (tables_of (data_of (items_view items.now))) (λ tables. Gives (λ list. list.items) result (behind kinds [] tables)) }
     ensures sized { IfOk result (λ list. length list.items ≡ length items.now) }
     ensures fit { IfOk result (λ list. AreFit list.items) }
+    ensures among { IfOk result (λ list. AllByRecursion (λ c. IsAmong kinds c.kind) list.items) }
 {
     let mut list = Vec::new(alloc);
     for item in items {
         let Some(table) = item.as_table() else {
             return Err(RegFault::BadCount);
         };
-        match next_credential(list.as_slice(), table) {
+        match next_credential(kinds, list.as_slice(), table) {
             Ok(credential) => list.push(credential)?,
             Err(cause) => {
                 let index = list.len() as u32;
@@ -236,9 +242,45 @@ fn credentials_of(alloc: Global, table: &Table) -> Result<Vec<Credential>, RegFa
     ensures listable { IfOk result (λ list. AreListable list.items) }
 {
     match listed(table) {
-        Some(items) => list_of(alloc, items),
+        Some(items) => list_of(alloc, Kinds::MacOrLms, items),
         None => Err(RegFault::BadCount),
     }
+}
+
+/// The array `credential`, whatever other keys stand beside it.
+fn array_in(table: &Table) -> Option<&[Value]>
+    ensures value { option_and_then (λ items. tables_of (data_of (items_view items.now))) result ≡ option_and_then (tables_in 1 256) (get_member (codes "credential") (table_view table.now)) }
+    ensures sized { IfSome result (λ items. (1 ≤ length items.now) × (length items.now ≤ 256)) }
+    ensures tables { IfSome result (λ items. IsSome (tables_of (data_of (items_view items.now)))) }
+{
+    tables_in(value_at(table, "credential")?, 1, 256)
+}
+
+/// The credentials of an array of tables, of kind mac alone.
+fn macs_of(alloc: Global, table: &Table) -> Result<Vec<Credential>, RegFault>
+    ensures value { Gives (λ list. list.items) result (macs_in (table_view table.now)) }
+    ensures listable { IfOk result (λ list. AreListable list.items) }
+    ensures among { IfOk result (λ list. AllByRecursion (λ c. IsAmong Kinds.MacAlone c.kind) list.items) }
+{
+    match array_in(table) {
+        Some(items) => list_of(alloc, Kinds::MacAlone, items),
+        None => Err(RegFault::BadCount),
+    }
+}
+
+/// The credentials in the array `credential` of a table, 1 to 256 tables as `read_credentials` takes them, but of kind `mac` alone.
+/// Other keys of the table aren't asked. The first fault is told, and `lms` is no kind; `NoMemory` where memory runs out.
+pub fn macs_in(alloc: Global, table: &Table) -> Result<CredentialList, RegFault>
+    // What is read is what the table says.
+    ensures read { IfOk result (λ list. macs_in (table_view table.now) ≡ Ok list) }
+    // A fault but want of memory is the table's first.
+    ensures refused { IfErr result (λ f. f ≢ RegFault.NoMemory → macs_in (table_view table.now) ≡ Err f) }
+    // What is read may be listed, and is of kind mac.
+    ensures listable { IfOk result AreListable }
+    ensures macs { IfOk result (λ list. AllByRecursion (λ c. c.kind ≡ Kind.Mac) list) }
+{
+    let list = macs_of(alloc, table)?;
+    Ok(CredentialList::of(list))
 }
 
 /// Reads the credentials of a file: an array `credential` of 1 to 256 tables.

@@ -16,9 +16,9 @@ use toml::{Table, Value};
 /// The most octets of a file.
 const FILE_LIMIT: usize = 65_536;
 
-/// The table of a file.
+/// The table of a file of at most 65,536 octets of TOML 1.1. `BadToml` where it is none, `NoMemory` where memory runs out.
 #[tactic(auto, using(crate::proofs::FileLemmas::table_long, crate::proofs::FileLemmas::table_read, crate::proofs::FileLemmas::table_none))]
-pub(crate) fn read_table(alloc: Global, file: &[u8]) -> Result<Table, RegFault>
+pub fn read_table(alloc: Global, file: &[u8]) -> Result<Table, RegFault>
     ensures { Gives table_view result (ok_or (table_in file.now) BadToml) }
 {
     if file.len() > FILE_LIMIT {
@@ -31,8 +31,8 @@ pub(crate) fn read_table(alloc: Global, file: &[u8]) -> Result<Table, RegFault>
     }
 }
 
-/// What stands at a key of a table.
-pub(crate) fn value_at<'a>(table: &'a Table, key: &str) -> Option<&'a Value>
+/// What stands at a key of a table; none where the key doesn't stand there.
+pub fn value_at<'a>(table: &'a Table, key: &str) -> Option<&'a Value>
     ensures { option_map (λ v. view v.now) result ≡ get_member key.now (table_view table.now) }
 {
     table.get(key)
@@ -53,7 +53,7 @@ fn are_among(words: &[&str], table: &Table) -> bool
 }
 
 /// Whether each key of a table is one of these words.
-pub(crate) fn has_only(words: &[&str], table: &Table) -> bool
+pub fn has_only(words: &[&str], table: &Table) -> bool
     ensures { result ≡ has_only (map (λ word. word.now) words.now) (table_view table.now) }
 {
     are_among(words, table)

@@ -6,9 +6,9 @@ ghost use Rattle.toml.specs.Data.{as_table};
 ghost use Rattle.deal_model.specs.Keys.{key_id};
 ghost use Rattle.deal_model.specs.Rules.{IsListedKey};
 ghost use Rattle.toml.specs.View.{view, items_view};
-ghost use Rattle.registry.specs.Forms.{text_in, number_in, hex_in, kind_of, kind_in, has_known_types, key_in, data_of, is_word, rights_sum, rights_of, rights_in, tables_of, tables_in};
+ghost use Rattle.registry.specs.Forms.{text_in, number_in, hex_in, kind_of, kind_in, of_kinds, kind_among, IsAmong, has_known_types, key_in, data_of, is_word, rights_sum, rights_of, rights_in, tables_of, tables_in};
 
-use cmp_ports::Short;
+use cmp_values::Short;
 use deal_answers::{levels_of, ots_of, tree_of};
 use deal_model::Kind;
 use toml::Value;
@@ -16,9 +16,9 @@ use toml::Value;
 /// The most octets in hex.
 const HEX_MOST: usize = 64;
 
-/// A text of so many octets.
+/// A text of at least and at most so many octets.
 #[tactic(auto, using(crate::proofs::HexLemmas::text_is))]
-pub(crate) fn text_in(value: &Value, least: usize, most: usize) -> Option<&str>
+pub fn text_in(value: &Value, least: usize, most: usize) -> Option<&str>
     ensures value { option_copied result ≡ text_in least most (view value.now) }
     ensures sized { IfSome result (λ text. (least ≤ length text.now) × (length text.now ≤ most)) }
     ensures text { IfSome result (λ text. IsTrue (is_utf8 text.now)) }
@@ -31,8 +31,8 @@ pub(crate) fn text_in(value: &Value, least: usize, most: usize) -> Option<&str>
     }
 }
 
-/// A number within these bounds.
-pub(crate) fn number_in(value: &Value, least: u32, most: u32) -> Option<u32>
+/// A number within these bounds, both included.
+pub fn number_in(value: &Value, least: u32, most: u32) -> Option<u32>
     ensures value { result ≡ number_in least most (view value.now) }
     ensures bounds { IfSome result (λ number. (least ≤ number) × (number ≤ most)) }
 {
@@ -44,9 +44,9 @@ pub(crate) fn number_in(value: &Value, least: u32, most: u32) -> Option<u32>
     }
 }
 
-/// So many octets, at most 64, in hex digits of either case.
+/// At least and at most so many octets, which are 64 at most, in hex digits of either case (RFC 4648, 8).
 #[tactic(auto, using(crate::proofs::HexLemmas::few, crate::proofs::HexLemmas::many))]
-pub(crate) fn hex_in(value: &Value, least: usize, most: usize) -> Option<Short>
+pub fn hex_in(value: &Value, least: usize, most: usize) -> Option<Short>
     requires { most ≤ 64 }
     ensures value { result ≡ hex_in least most (view value.now) }
     ensures sized { IfSome result (λ octets. (least ≤ length octets) × (length octets ≤ most)) }
@@ -63,8 +63,37 @@ pub(crate) fn hex_in(value: &Value, least: usize, most: usize) -> Option<Short>
     }
 }
 
-/// How a credential protects a message.
-pub(crate) fn kind_in(value: &Value) -> Option<Kind>
+/// The kinds of credentials that are in form.
+#[derive(Clone, Copy, Debug, PartialEq, Eq)]
+pub enum Kinds {
+    /// Shared secrets and HSS/LMS keys.
+    MacOrLms,
+    /// Shared secrets alone.
+    MacAlone,
+}
+
+/// The kind, where it is one of these.
+fn of_kinds(kinds: Kinds, kind: Kind) -> Option<Kind>
+    ensures value { result ≡ of_kinds kinds kind }
+    ensures among { IfSome result (IsAmong kinds) }
+{
+    match (kinds, kind) {
+        (Kinds::MacOrLms, kind) => Some(kind),
+        (Kinds::MacAlone, Kind::Mac) => Some(Kind::Mac),
+        (Kinds::MacAlone, Kind::Lms) => None,
+    }
+}
+
+/// How a credential of one of these kinds protects a message: `mac` or `lms`.
+pub fn kind_among(kinds: Kinds, value: &Value) -> Option<Kind>
+    ensures value { result ≡ kind_among kinds (view value.now) }
+    ensures among { IfSome result (IsAmong kinds) }
+{
+    of_kinds(kinds, kind_in(value)?)
+}
+
+/// How a credential protects a message: `mac` or `lms`.
+pub fn kind_in(value: &Value) -> Option<Kind>
     ensures { result ≡ kind_in (view value.now) }
 {
     match value.as_str()? {
@@ -86,8 +115,8 @@ fn has_known_types(key: &[u8]) -> bool
     levels >= 1 && levels <= 8 && tree >= 5 && tree <= 9 && ots >= 1 && ots <= 4
 }
 
-/// An HSS/LMS key.
-pub(crate) fn key_in(value: &Value) -> Option<Short>
+/// An HSS/LMS key: 60 octets in hex digits, with 1 to 8 levels and known types (RFC 8554, 5.1, 4.1 and 6.1).
+pub fn key_in(value: &Value) -> Option<Short>
     ensures value { result ≡ key_in (view value.now) }
     ensures listed { IfSome result (λ key. IsListedKey (key_id key) key) }
 {
@@ -136,8 +165,8 @@ fn rights_of(items: &[Value]) -> Option<u8>
     rights_sum(enrol, vouch, wrap, revoke, items.len())
 }
 
-/// The rights of a credential.
-pub(crate) fn rights_in(value: &Value) -> Option<u8>
+/// The rights of a credential: an array of `enrol`, `vouch`, `wrap` and `revoke`, each at most once.
+pub fn rights_in(value: &Value) -> Option<u8>
     ensures value { result ≡ rights_in (view value.now) }
     ensures bound { IfSome result (λ rights. rights < 16) }
 {
@@ -151,9 +180,9 @@ fn are_tables(items: &[Value]) -> bool
     items.iter().all(|item| item.is_table())
 }
 
-/// So many tables, in an array.
+/// The items of an array of at least and at most so many tables, and nothing else.
 #[tactic(auto, using(crate::proofs::TableLemmas::no_tables, crate::proofs::TableLemmas::some_tables, crate::proofs::TableLemmas::sized_tables, crate::proofs::TableLemmas::few_tables, crate::proofs::TableLemmas::many_tables), unfolding(crate::specs::Forms::tables_in))]
-pub(crate) fn tables_in(value: &Value, least: usize, most: usize) -> Option<&[Value]>
+pub fn tables_in(value: &Value, least: usize, most: usize) -> Option<&[Value]>
     ensures value { option_and_then (λ items. tables_of (data_of (items_view items.now))) result ≡ tables_in least most (view value.now) }
     ensures sized { IfSome result (λ items. (least ≤ length items.now) × (length items.now ≤ most)) }
     ensures tables { IfSome result (λ items. IsSome (tables_of (data_of (items_view items.now)))) }

@@ -11,6 +11,10 @@ mod settings;
 #[cfg(test)]
 mod tests;
 
-pub use credentials::read_credentials;
+pub use credentials::{macs_in, read_credentials};
 pub use fault::{CredCause, RegFault, SettingKey};
+pub use file::{has_only, read_table, value_at};
+pub use forms::{
+    Kinds, hex_in, key_in, kind_among, kind_in, number_in, rights_in, tables_in, text_in,
+};
 pub use settings::read_settings;

@@ -3,7 +3,9 @@
 //! The name is the subject that OpenSSL wrote for `-subj "/CN=Fleet CA" -utf8`. Bouncy Castle 1.72 made the HSS key, and its
 //! identifier was computed by Python's `hashlib`.
 
-use crate::{CredCause, RegFault, SettingKey, read_credentials, read_settings};
+use crate::{
+    CredCause, RegFault, SettingKey, macs_in, read_credentials, read_settings, read_table,
+};
 use deal_model::{Credential, CredentialList, Kind, Settings};
 use std::alloc::Global;
 use std::test::Fail;
@@ -243,6 +245,36 @@ fn are_device_and_authority(list: &[Credential]) -> bool {
 fn credentials_are_read(rt: HostRuntime) -> Result<(), Fail> {
     let list = credentials(rt.alloc())?;
     assert!(rt; are_device_and_authority(list.as_slice()));
+    Ok(())
+}
+
+/// Whether the device is read of a table with another key beside it.
+fn is_device_read(alloc: Global, texts: &[&str]) -> Result<bool, Fail> {
+    let file = joined(alloc, texts)?;
+    let Ok(table) = read_table(alloc, file.as_bytes()) else {
+        return Ok(false);
+    };
+    match macs_in(alloc, &table) {
+        Ok(list) => Ok(matches!(list.as_slice(), [device] if is_device(device))),
+        Err(_) => Ok(false),
+    }
+}
+
+/// The fault of the credentials of kind mac alone.
+fn macs_fault(alloc: Global, texts: &[&str]) -> Result<Option<RegFault>, Fail> {
+    let file = joined(alloc, texts)?;
+    let Ok(table) = read_table(alloc, file.as_bytes()) else {
+        return Ok(Some(RegFault::BadToml));
+    };
+    Ok(macs_in(alloc, &table).err())
+}
+
+#[test]
+fn credentials_of_kind_mac_stand_beside_other_keys(rt: HostRuntime) -> Result<(), Fail> {
+    assert!(rt; is_device_read(rt.alloc(), &["mode = 'vouch'\n", DEVICE])?);
+    let lms = macs_fault(rt.alloc(), &[DEVICE, AUTHORITY])?;
+    assert!(rt; lms == bad_credential(1, CredCause::Kind));
+    assert!(rt; macs_fault(rt.alloc(), &["mode = 'vouch'"])? == Some(RegFault::BadCount));
     Ok(())
 }
 

@@ -2,7 +2,7 @@
 
 use crate::messages::{Sent, asked, checked, plain};
 use crate::told::{Told, grant_by, refused, rule};
-use cmp_ports::FailInfo;
+use cmp_values::FailInfo;
 use deal_model::{Ask, Body4, Job};
 use std::alloc::Global;
 use std::process::Abort;

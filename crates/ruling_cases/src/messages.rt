@@ -1,7 +1,7 @@
 //! What is left of checked messages.
 ghost use Rattle.std.specs.Prelude.{◌≡◌, ◌≤◌, length};
 
-use cmp_ports::Short;
+use cmp_values::Short;
 use deal_model::{Ask, Checked, Echo, Job, Kind, Who};
 
 /// These octets, at most 64.

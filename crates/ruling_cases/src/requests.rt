@@ -3,7 +3,7 @@
 use crate::changes::NOW;
 use crate::messages::{Sent, asked, checked, plain, short};
 use crate::told::{Told, grant_by, refused, refused_outer, rule};
-use cmp_ports::{FailInfo, Octets};
+use cmp_values::{FailInfo, Octets};
 use deal_model::{Ask, Body4, Job, Kind, Wish};
 use hex::{FromHexError, decode};
 use std::alloc::Global;
@@ -29,7 +29,7 @@ fn request(alloc: Global, key: &str) -> Option<Job> {
         implicit: false,
         mods: false,
     };
-    Some(Job::Enrol(Body4::Ir, wish, None))
+    Some(Job::Enrol(Body4::Ir, wish))
 }
 
 /// What comes of a request over this key, at the end of the history.

@@ -1,6 +1,6 @@
 //! What comes of a message, in brief.
 use crate::changes::{NOW, history};
-use cmp_ports::FailInfo;
+use cmp_values::FailInfo;
 use deal_model::{Body4, Change, Checked};
 use deal_rules::is_legal;
 use deal_rulings::{Ruling, ruling_on};

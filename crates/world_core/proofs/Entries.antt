@@ -5,7 +5,7 @@ use Rattle.std.proofs.lemmas.List.{append-nil, take-append-le, length-append}
 use Rattle.std.proofs.lemmas.Option.{same_Some, none-some, slice_get_within}
 use Rattle.deal_changes.specs.declared.change.Change.{Change}
 use Rattle.deal_model.specs.declared.states.Key.{Key}
-use Rattle.deal_model.specs.Views.{History, HasLeaf, leaves_in}
+use Rattle.deal_model.specs.Views.{History, HasLeaf, signing_leaves}
 use Rattle.world_core.specs.declared.world.Source.TheVariants.{Place}
 use Rattle.world_core.specs.declared.world.Signed.{Signed}
 use Rattle.world_core.specs.Steps.{is_signed, with_leaf, with_leaves, leaves_of_place, with_place, with_change}
@@ -96,5 +96,5 @@ place_begins signed h n = leaves_begin signed (leaves_of_place (slice_get h (n -
 pub place_entries : (signed : List Signed) (h : History) (acked n : ℕ) → 1 ≤ n → n ≤ acked → AllByRecursion (IsEntry h acked) signed → AllByRecursion (IsEntry h acked) (with_place signed h n)
 place_entries signed h acked n low high all = elim (slice_get h (n - 1)) as (λ o. slice_get h (n - 1) ≡ o → AllByRecursion (IsEntry h acked) (with_leaves signed (leaves_of_place o) n)) [
   | None ↦ λ _. all
-  | Some c ↦ λ here. leaves_all (IsEntry h acked) signed (leaves_in c) n all (λ key leaf has. record { low = low; high = high; change = c; stands = here; has = has })
+  | Some c ↦ λ here. leaves_all (IsEntry h acked) signed (signing_leaves c) n all (λ key leaf has. record { low = low; high = high; change = c; stands = here; has = has })
 ] refl

@@ -4,9 +4,9 @@ use Rattle.std.specs.Prelude.{IfSome}
 use Rattle.std.specs.List.{slice_get, AllByRecursion}
 use Rattle.std.proofs.lemmas.List.{length-append}
 use Rattle.deal_changes.specs.declared.change.Change.{Change}
-use Rattle.deal_model.specs.Views.{History, TakesLeaf}
+use Rattle.deal_model.specs.Views.{History, SignsWith}
 use Rattle.deal_model.specs.Rules.{Allowed, Legal}
-use Rattle.deal_model.specs.Laws.{GrowsLegally, EachLeafOnce}
+use Rattle.deal_model.specs.Laws.{GrowsLegally, EachLeafOnce, SignedAreTaken}
 use Rattle.world_core.specs.declared.world.Signed.{Signed}
 use Rattle.world_core.specs.declared.world.World.{World}
 use Rattle.world_core.specs.declared.world.Step.{Step}
@@ -153,15 +153,15 @@ every_step grows steps w v s run leads = step_follows w v s (every_safe grows st
 
 -- ---- each leaf for one place
 
-same_entry : (h : History) (acked : ℕ) (e f : Signed) → EachLeafOnce h → IsEntry h acked e → IsEntry h acked f → e.key ≡ f.key → e.leaf ≡ f.leaf → place_of e.source ≡ place_of f.source
-same_entry h acked e f once one two key leaf =
-    let moved = subst (λ l. TakesLeaf two.change e.key l) (sym leaf) (subst (λ k. TakesLeaf two.change k f.leaf) (sym key) two.has) in
-    let places : place_of e.source - 1 ≡ place_of f.source - 1 = once (place_of e.source - 1) (place_of f.source - 1) one.change two.change e.key e.leaf one.stands two.stands one.has moved in
+same_entry : (h : History) (acked : ℕ) (e f : Signed) → EachLeafOnce h → SignedAreTaken → IsEntry h acked e → IsEntry h acked f → e.key ≡ f.key → e.leaf ≡ f.leaf → place_of e.source ≡ place_of f.source
+same_entry h acked e f once taken one two key leaf =
+    let moved = subst (λ l. SignsWith two.change e.key l) (sym leaf) (subst (λ k. SignsWith two.change k f.leaf) (sym key) two.has) in
+    let places : place_of e.source - 1 ≡ place_of f.source - 1 = once (place_of e.source - 1) (place_of f.source - 1) one.change two.change e.key e.leaf one.stands two.stands (taken one.change e.key e.leaf one.has) (taken two.change e.key e.leaf moved) in
     let low : 1 ≤ place_of e.source = one.low in
     let too : 1 ≤ place_of f.source = two.low in
     omega arith
 
-pub every_signed : GrowsLegally → ((h : History) → Legal h → EachLeafOnce h) → (steps : List Step) (w : World) → Run founded steps w → SignedOnce w
-every_signed grows once steps w run i j e f at_i at_j key leaf =
+pub every_signed : GrowsLegally → ((h : History) → Legal h → EachLeafOnce h) → SignedAreTaken → (steps : List Step) (w : World) → Run founded steps w → SignedOnce w
+every_signed grows once taken steps w run i j e f at_i at_j key leaf =
     let safe = every_safe grows steps w run in
-    same_entry w.durable w.acked e f (once w.durable safe.legal) (all_get (IsEntry w.durable w.acked) w.signed i e safe.signed at_i) (all_get (IsEntry w.durable w.acked) w.signed j f safe.signed at_j) key leaf
+    same_entry w.durable w.acked e f (once w.durable safe.legal) taken (all_get (IsEntry w.durable w.acked) w.signed i e safe.signed at_i) (all_get (IsEntry w.durable w.acked) w.signed j f safe.signed at_j) key leaf

@@ -2,7 +2,7 @@
 use Rattle.std.specs.Prelude.{◌≡◌, ℕ, ◌-◌, ◌≤◌, Bool, true, false, List, [], ◌∷◌, ◌++◌, length, take, Option, Some, None, IfSome, ◌⊎◌, slice_get}
 use Rattle.std.specs.List.{AllByRecursion}
 use Rattle.deal_changes.specs.declared.change.Change.{Change}
-use Rattle.deal_model.specs.Views.{History, TakesLeaf}
+use Rattle.deal_model.specs.Views.{History, SignsWith}
 use Rattle.deal_model.specs.Rules.{Allowed, Legal}
 use Rattle.world_core.specs.declared.world.Source.{Source}
 use Rattle.world_core.specs.declared.world.Source.TheVariants.{Place}
@@ -18,13 +18,13 @@ place_of (Place n) = n
 abbrev pub IsPlace : ℕ → ℕ → Type 0
 IsPlace acked n = (1 ≤ n) × (n ≤ acked)
 
--- a signed leaf is one of the change at its place, which was acknowledged
+-- a signed leaf is one that the change at its place signs with, which was acknowledged
 pub record IsEntry (h : History) (acked : ℕ) (e : Signed) : Type 0 where
   pub low : 1 ≤ place_of e.source
   pub high : place_of e.source ≤ acked
   pub change : Change
   pub stands : slice_get h (place_of e.source - 1) ≡ Some change
-  pub has : TakesLeaf change e.key e.leaf
+  pub has : SignsWith change e.key e.leaf
 
 -- The history is legal; at most one change is on its way, and it may come next; the acknowledged changes stand; what was
 -- signed and sent comes from them.

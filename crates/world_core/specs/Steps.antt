@@ -6,7 +6,7 @@ use Rattle.deal_changes.specs.declared.change.Change.{Change}
 use Rattle.deal_changes.specs.declared.change.Change.TheVariants as changes
 use Rattle.deal_model.specs.declared.states.Key.{Key}
 use Rattle.deal_model.specs.declared.states.Key.TheVariants.{Issue, Reply}
-use Rattle.deal_model.specs.Views.{History, leaves_in}
+use Rattle.deal_model.specs.Views.{History, signing_leaves}
 use Rattle.deal_model.specs.Rules.{Allowed}
 use Rattle.world_core.specs.declared.world.Source.TheVariants.{Place}
 use Rattle.world_core.specs.declared.world.Signed.{Signed}
@@ -53,7 +53,7 @@ with_leaves signed [] place = signed
 with_leaves signed (x ∷ xs) place = with_leaves (with_leaf signed x.0 x.1 place) xs place
 
 abbrev pub leaves_of_place : Option Change → List (Key × ℕ)
-leaves_of_place (Some c) = leaves_in c
+leaves_of_place (Some c) = signing_leaves c
 leaves_of_place None = []
 
 abbrev pub with_place : List Signed → History → ℕ → List Signed

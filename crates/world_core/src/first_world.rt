@@ -3,7 +3,7 @@ ghost use Rattle.std.specs.Prelude.{◌≡◌, ◌↔◌, ◌∷◌, [], IsTrue,
 ghost use Rattle.world_core.specs.Steps.{first_settings, first_change, founded};
 
 use crate::world::{Changes, Places, SignedList, World};
-use cmp_ports::Octets;
+use cmp_values::Octets;
 use deal_model::{Change, Settings};
 use std::alloc::{AllocError, Global};
 

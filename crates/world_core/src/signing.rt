@@ -1,7 +1,7 @@
 //! Signing with the leaves of a change.
 ghost use Rattle.std.specs.Prelude.{◌≡◌, ◌≤◌, Option, OnOk};
 ghost use Rattle.std.specs.List.{list_any};
-ghost use Rattle.deal_model.specs.Views.{leaves_in, reply_leaves, stamp_leaves};
+ghost use Rattle.deal_model.specs.Views.{signing_leaves, reply_leaves, stamp_leaves};
 ghost use Rattle.deal_changes.specs.Times.{stamp_of};
 ghost use Rattle.world_core.specs.Steps.{same_key, is_signed, with_leaf, with_leaves, with_place};
 
@@ -64,7 +64,7 @@ fn sign_stamp(signed: &mut SignedList, c: &Change, place: u64) -> Result<(), All
 }
 
 fn sign_change(signed: &mut SignedList, c: &Change, place: u64) -> Result<(), AllocError>
-    ensures { OnOk result (signed.new ≡ with_leaves signed.old (leaves_in c.now) place) }
+    ensures { OnOk result (signed.new ≡ with_leaves signed.old (signing_leaves c.now) place) }
 {
     match c {
         Change::Found(_) => {

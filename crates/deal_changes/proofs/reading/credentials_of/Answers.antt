@@ -1,4 +1,3 @@
-use Rattle.std.proofs.Common.{◌≡◌, ◌++◌, ◌∷◌, []}
 use Rattle.deal_changes.specs.Reading.{credentials_at}
 use Rattle.deal_changes.proofs.Loop.{goes_on, ends, is_done}
 use Rattle.deal_changes.proofs.reading.credentials_of.Goals as goal

@@ -9,6 +9,10 @@ returns-clause-time c = λ h legal p q x y le e f. never_falls [] h legal.1 p q 
 pub returns-clause-leaves : goal.returns-clause-leaves
 returns-clause-leaves c = once
 
+-- the two words are one for each of these kinds
+pub returns-clause-signed : goal.returns-clause-signed
+returns-clause-signed c = λ change key leaf has. has
+
 pub returns-clause-serials : goal.returns-clause-serials
 returns-clause-serials c = serials
 

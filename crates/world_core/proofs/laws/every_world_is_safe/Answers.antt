@@ -8,4 +8,4 @@ pub returns-clause-step : goal.returns-clause-step
 returns-clause-step c = every_step c.legal_histories_grow.ensures.grows
 
 pub returns-clause-signed : goal.returns-clause-signed
-returns-clause-signed c = every_signed c.legal_histories_grow.ensures.grows c.legal_histories.ensures.leaves
+returns-clause-signed c = every_signed c.legal_histories_grow.ensures.grows c.legal_histories.ensures.leaves c.legal_histories.ensures.signed
