@@ -1,7 +1,7 @@
 //! What a check keeps of messages that fit.
 
 use crate::looks::{Cred, OUTER, SECRET, look};
-use cmp_ports::Short;
+use cmp_values::Short;
 use deal_changes::{Body4, Kind, Who};
 use deal_model::{Checked, DealState, Job};
 use deal_table::Look;
@@ -73,7 +73,7 @@ fn keeps_a_request(rt: HostRuntime) {
         panic!(rt; "refused");
     };
     assert!(rt; checked.proven && checked.key.is(SECRET));
-    let Job::Enrol(body, wish, _) = &checked.job else {
+    let Job::Enrol(body, wish) = &checked.job else {
         panic!(rt; "no request");
     };
     assert!(rt; *body == Body4::Ir);

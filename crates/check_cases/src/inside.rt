@@ -1,7 +1,7 @@
 //! Messages inside nested ones.
 
 use crate::looks::{Cred, Row, Told, answer};
-use cmp_ports::FailInfo;
+use cmp_values::FailInfo;
 use deal_model::DealState;
 use std::process::Abort;
 

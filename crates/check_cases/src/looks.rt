@@ -1,7 +1,7 @@
 //! What a look tells, and what a check by it answers.
 ghost use Rattle.std.specs.Prelude.{◌≡◌, ◌≤◌, length};
 
-use cmp_ports::{FailInfo, Short};
+use cmp_values::{FailInfo, Short};
 use deal_changes::{Kind, Who};
 use deal_model::{Brief, DealState, Standing};
 use deal_table::Look;

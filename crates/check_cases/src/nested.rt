@@ -1,7 +1,7 @@
 //! Nested messages: each has one fault fewer than the one before it.
 
 use crate::looks::{Cred, Row, Told, answer};
-use cmp_ports::FailInfo;
+use cmp_values::FailInfo;
 use deal_model::DealState;
 use std::process::Abort;
 

@@ -1,7 +1,7 @@
 //! Updates, polls, confirmations and revocations.
 
 use crate::looks::{Cred, Row, Told, answer};
-use cmp_ports::FailInfo;
+use cmp_values::FailInfo;
 use deal_model::DealState;
 use std::process::Abort;
 

@@ -1,7 +1,7 @@
 //! Requests for certificates, and those that lack one fault.
 
 use crate::looks::{Cred, Row, Told, answer};
-use cmp_ports::FailInfo;
+use cmp_values::FailInfo;
 use deal_model::DealState;
 use std::process::Abort;
 

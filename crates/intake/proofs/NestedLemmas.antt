@@ -8,8 +8,8 @@ use Rattle.deal_model.specs.declared.asking.Echo.{Echo}
 use Rattle.deal_model.specs.declared.states.Owner.{Owner}
 use Rattle.deal_model.specs.declared.states.Standing.TheVariants.{Good}
 use Rattle.deal_model.specs.Views.{History}
-use Rattle.cmp_ports.specs.declared.fail_info.FailInfo.{FailInfo}
-use Rattle.cmp_ports.specs.declared.fail_info.FailInfo.TheVariants.{BadRequest, NotAuthorized}
+use Rattle.cmp_values.specs.declared.fail_info.FailInfo.{FailInfo}
+use Rattle.cmp_values.specs.declared.fail_info.FailInfo.TheVariants.{BadRequest, NotAuthorized}
 use Rattle.deal_table.specs.declared.look.Look.{Look}
 use Rattle.deal_table.specs.Carry.{IsReadable, FitsJob, IsWrapped, Carries, header_by, untold, IsTold}
 use Rattle.deal_table.specs.History.{Receipted, IsFounded, look_of}
@@ -19,7 +19,7 @@ use Rattle.deal_table.specs.Message.{Body, Nests, is_nested, Header, Facts, Lett
 use Rattle.deal_table.specs.Table.{◌when◌, Decision, unless, pass, bare, guarded, header_rows, wrap_rows, may_wrap, nested_count, tid_of, trusted_by, repeated}
 use Rattle.intake.specs.Bodies.{nested_inside}
 use Rattle.intake.specs.Checking.{ForFacts, IsTo, IsBack, IsBackAround, IsBadInner, IsHashOf, IsInner, IsSubject, IsTrusted, IsWhole, checked_by, name_for}
-use Rattle.intake.specs.Fit.{IsUnfit, IsCompared}
+use Rattle.intake.specs.Fit.{IsUnfit, IsCompared, TellsNoMore}
 use Rattle.intake.specs.Letter.{IsReading, Checks, AreChecked, AreChecks, facts_of, IsLetter}
 use Rattle.intake.specs.Made.{FirstApplies, heading_of, with_kid, credential_of, IsMadeOf}
 use Rattle.intake.specs.declared.sender.Sender.{Sender}
@@ -175,6 +175,11 @@ module _ (bytes : List ℕ) (m : MessageForm) (one : (o : Option MessageForm) �
           hash = λ hashes l h digests w.
               subst (λ (f : Facts). IsTold f.body s.task.hash_ok ask.tid h) (sym (inner_subject hashes l w)) (told_is l.inner.body s.task.hash_ok ask.tid h ((subject_at hashes l w).told digests));
           compares = λ hashes l w. subst (λ (f : Facts). IsCompared hashes f.body s.task.job s.task.hash_ok) (sym (inner_subject hashes l w)) (subject_at hashes l w).compared;
+          exact = λ hashes l w. record {
+            no_more = subst (λ (f : Facts). TellsNoMore f.body s.task.job s.task.proven s.task.minus_one s.task.hash_ok) (sym (inner_subject hashes l w)) (subject_at hashes l w).no_more;
+            nobody = (subject_at hashes l w).nobody;
+            around = λ alone. absurd (let x : true ≡ false = sym (nested hashes l w) ∙ alone in cc);
+          };
           passes = λ hashes l h now w founded e next.
               subst (λ (name : List ℕ). looked look name l next ≡ repeated look.repeat next) (name_is look h ask now founded e)
               (looked_at hashes l w (name_for look) next ∙ read_passes (guarded true l.message sender.owner) (bare false) l.inner (looked_passed look (name_for look) l.inner next) (readable_inside hashes l w) ∙ (subject_at hashes l w).passes next);

@@ -5,7 +5,7 @@ use Rattle.pki_message.specs.Message.{MessageForm, IsMessage}
 use Rattle.deal_model.specs.declared.asking.Ask.{Ask}
 use Rattle.deal_model.specs.declared.asking.Echo.{Echo}
 use Rattle.deal_model.specs.Views.{History}
-use Rattle.cmp_ports.specs.declared.fail_info.FailInfo.{FailInfo}
+use Rattle.cmp_values.specs.declared.fail_info.FailInfo.{FailInfo}
 use Rattle.deal_table.specs.declared.look.Look.{Look}
 use Rattle.deal_table.specs.Carry.{IsReadable, FitsJob, header_by, untold, IsTold}
 use Rattle.deal_table.specs.History.{Receipted, name_of}
@@ -15,7 +15,7 @@ use Rattle.deal_table.specs.Message.{Body, is_nested, Header, Facts, Letter, sub
 use Rattle.deal_table.specs.Table.{Decision, pass, header_rows, tid_of, repeated}
 use Rattle.intake.specs.Bodies.{nested_inside}
 use Rattle.intake.specs.Checking.{ForFacts, IsBack, IsHashOf, IsSubject, IsWhole, checked_by, name_for}
-use Rattle.intake.specs.Fit.{IsUnfit, IsCompared}
+use Rattle.intake.specs.Fit.{IsUnfit, IsCompared, TellsNoMore}
 use Rattle.intake.specs.Letter.{IsReading, Checks, AreChecked, AreChecks, facts_of, IsLetter}
 use Rattle.intake.specs.Made.{heading_of, IsMadeOf}
 use Rattle.intake.specs.declared.subject.Subject.{Subject}
@@ -67,6 +67,11 @@ module _ (bytes : List ℕ) (m : MessageForm) (one : (o : Option MessageForm) �
       hash = λ hashes l h digests w.
           subst (λ (f : Facts). IsTold f.body s.task.hash_ok ask.tid h) (itself hashes l w) (told_is l.message.body s.task.hash_ok ask.tid h ((subject_at hashes l w).told digests));
       compares = λ hashes l w. subst (λ (f : Facts). IsCompared hashes f.body s.task.job s.task.hash_ok) (itself hashes l w) (subject_at hashes l w).compared;
+      exact = λ hashes l w. record {
+        no_more = subst (λ (f : Facts). TellsNoMore f.body s.task.job s.task.proven s.task.minus_one s.task.hash_ok) (itself hashes l w) (subject_at hashes l w).no_more;
+        nobody = (subject_at hashes l w).nobody;
+        around = λ _. (refl, refl);
+      };
       passes = λ hashes l h now w founded e next.
           subst (λ (name : List ℕ). looked look name l next ≡ repeated look.repeat next) (name_is look h ask now founded e)
           (looked_plain look (name_for look) l next (not_nested hashes l w) (is_readable bytes m one passes hashes l w) ∙ (subject_at hashes l w).passes next);

@@ -1,9 +1,11 @@
 -- The check of a message that is about something.
-use Rattle.std.proofs.Common.{◌≡◌, ℕ, Bool, true, false, List, Option, Some, None, is_some, refl, sym, ap, subst, ◌∙◌}
+use Rattle.std.proofs.Common.{◌≡◌, ℕ, Bool, true, false, List, [], Option, Some, None, is_some, refl, sym, ap, subst, ◌∙◌}
+use Rattle.deal_changes.specs.declared.change.Who.{Who}
+use Rattle.deal_changes.specs.declared.change.Who.TheVariants.{Cert}
 use Rattle.deal_model.specs.declared.asking.Job.{Job}
 use Rattle.deal_model.specs.declared.asking.Job.TheVariants.{Repeat, Enrol, Confirm, Poll, Withdraw}
 use Rattle.deal_model.specs.declared.states.Owner.{Owner}
-use Rattle.cmp_ports.specs.declared.fail_info.FailInfo.TheVariants.{BadRequest}
+use Rattle.cmp_values.specs.declared.fail_info.FailInfo.TheVariants.{BadRequest}
 use Rattle.deal_table.specs.declared.look.Look.{Look}
 use Rattle.deal_table.specs.History.{Receipted}
 use Rattle.deal_table.specs.Looked.{looked_about, looked_passed}
@@ -11,7 +13,7 @@ use Rattle.deal_table.specs.Message.{Body, Enrols, Confirms, Polls, Withdraws, N
 use Rattle.deal_table.specs.Table.{Decision, unless, bare, guarded, is_served, served_rows, trusted_by, repeated}
 use Rattle.deal_table.proofs.Rows.{unless_passed}
 use Rattle.intake.specs.Checking.{IsBack, IsTrusted, IsHashOf, IsLeft, IsTask, IsRefused, IsSent, IsSentFor, IsSubject, name_for}
-use Rattle.intake.specs.Fit.{AreDigests, IsCompared}
+use Rattle.intake.specs.Fit.{AreDigests, IsCompared, TellsNoMore, TellsNobody}
 use Rattle.intake.specs.declared.sender.Sender.{Sender}
 use Rattle.intake.specs.declared.job.Task.{Task}
 use Rattle.intake.specs.declared.subject.Subject.{Subject}
@@ -33,20 +35,31 @@ none_told (Nests n) = tt
 none_told OtherBody = tt
 
 -- a message that stands in the history
-pub repeats : (look : Look) (hashes : Receipted → List ℕ) (f : Facts) (s : Subject) (place : ℕ) → look.repeat ≡ Some place → s.task.job ≡ Repeat → s.task.hash_ok ≡ None → IsSubject look hashes f s
-repeats look hashes f s place e job none = record {
+pub repeats : (look : Look) (hashes : Receipted → List ℕ) (f : Facts) (s : Subject) (place : ℕ) → look.repeat ≡ Some place → s ≡ record { who = Cert 0; key = []; task = record { job = Repeat; proven = false; minus_one = false; hash_ok = None } }
+    → IsSubject look hashes f s
+repeats look hashes f s place e is = rw is (record {
   passes = λ next. rw e refl;
-  told = λ digests. subst (IsHashOf f.body) (sym none) (none_told f.body);
-  compared = subst (λ (j : Job). IsCompared hashes f.body j s.task.hash_ok) (sym job) tt;
-  sent = subst (IsSentFor look hashes f s) (sym job) (place, e);
-}
+  told = λ digests. none_told f.body;
+  compared = tt;
+  sent = (place, e);
+  no_more = (refl, refl, refl);
+  nobody = (refl, refl);
+})
 
 sent_by : (look : Look) (hashes : Receipted → List ℕ) (f : Facts) (s : Subject) (j : Job) → IsLeft j → IsSent look hashes f s → IsSentFor look hashes f s j
 sent_by look hashes f s Repeat left sent = absurd left
-sent_by look hashes f s (Enrol body wish old) left sent = sent
+sent_by look hashes f s (Enrol body wish) left sent = sent
 sent_by look hashes f s (Confirm id_ok hash hash_alg_ok count status) left sent = sent
 sent_by look hashes f s (Poll ids_ok) left sent = sent
 sent_by look hashes f s (Withdraw serial reason) left sent = sent
+
+-- of what is left a sender is told
+left_nobody : (j : Job) (who : Who) (key : List ℕ) → IsLeft j → TellsNobody j who key
+left_nobody Repeat who key left = absurd left
+left_nobody (Enrol body wish) who key left = tt
+left_nobody (Confirm id_ok hash hash_alg_ok count status) who key left = tt
+left_nobody (Poll ids_ok) who key left = tt
+left_nobody (Withdraw serial reason) who key left = tt
 
 module _ (look : Look) (f : Facts) (none : look.repeat ≡ None) where
   -- what is about nothing
@@ -79,6 +92,8 @@ module _ (look : Look) (f : Facts) (none : look.repeat ≡ None) where
         passes = λ next. behind next ∙ task.passes (guarded false f s.owner) next ∙ ap (λ (r : Option ℕ). repeated r next) (sym none);
         told = λ digests. subst (λ (b : Body). IsHashOf b k.hash_ok) (sym is) (task.told digests);
         compared = subst (λ (b : Body). IsCompared hashes b k.job k.hash_ok) (sym is) task.compared;
+        no_more = subst (λ (b : Body). TellsNoMore b k.job k.proven k.minus_one k.hash_ok) (sym is) task.no_more;
+        nobody = left_nobody k.job s.owner.who s.owner.key task.left;
         sent = sent_by look hashes f (record { who = s.owner.who; key = s.owner.key; task = k }) k.job task.left (record {
           owner = s.owner;
           good = t.good;

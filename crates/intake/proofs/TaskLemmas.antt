@@ -3,7 +3,7 @@ use Rattle.std.proofs.Common.{◌≡◌, ℕ, Bool, true, false, List, ◌++◌,
 use Rattle.std.specs.Prelude.{not, ◌||◌, ◌&&◌, Result, Ok, Err, IfOk, IfErr}
 use Rattle.deal_model.specs.declared.states.Owner.{Owner}
 use Rattle.deal_table.specs.Message.{Enrolment}
-use Rattle.cmp_ports.specs.declared.fail_info.FailInfo.{FailInfo}
+use Rattle.cmp_values.specs.declared.fail_info.FailInfo.{FailInfo}
 use Rattle.deal_table.specs.Table.{Row, To, Decision, Refuses, unless, may_enrol, is_certificate, is_kur, is_other_name, is_other_old, wish_rows}
 use Rattle.deal_table.proofs.Rows.{unless_append, unless_passed}
 use Rattle.intake.specs.Made.{FirstApplies}

@@ -12,7 +12,7 @@ use Rattle.deal_model.specs.declared.asking.Job.TheVariants.{Repeat, Enrol, Conf
 use Rattle.deal_model.specs.declared.states.Owner.{Owner}
 use Rattle.deal_model.specs.declared.states.Standing.TheVariants.{Good}
 use Rattle.deal_model.specs.Views.{History}
-use Rattle.cmp_ports.specs.declared.fail_info.FailInfo.{FailInfo}
+use Rattle.cmp_values.specs.declared.fail_info.FailInfo.{FailInfo}
 use Rattle.deal_table.specs.declared.look.Look.{Look}
 use Rattle.deal_table.specs.Carry.{IsReadable, IsProtected, IsJob, IsChecked, IsForJob, IsWrapped, IsInside, Carries, IsTold, untold, header_by}
 use Rattle.deal_table.specs.History.{Receipted, IsFounded, name_of, owner_for, place_of_digest, look_of}
@@ -78,7 +78,7 @@ module _ (look : Look) (h : History) (now : ℕ) (ask : Ask) (echo : Echo) (hash
   for_job Repeat p =
       let at : (look_of h ask now).repeat ≡ Some p.0 = subst (λ (x : Look). x.repeat ≡ Some p.0) e p.1 in
       (p.0, ap (place_of_digest h) digest ∙ at)
-  for_job (Enrol body wish old) p = is_sent p
+  for_job (Enrol body wish) p = is_sent p
   for_job (Confirm id_ok hash hash_alg_ok count status) p = is_sent p
   for_job (Poll ids_ok) p = is_sent p
   for_job (Withdraw serial reason) p = is_sent p

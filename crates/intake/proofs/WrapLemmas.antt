@@ -3,8 +3,8 @@ use Rattle.std.proofs.Common.{◌≡◌, ℕ, Bool, true, false, List, length, O
 use Rattle.std.specs.Prelude.{◌==◌}
 use Rattle.pki_message.specs.Message.{MessageForm}
 use Rattle.deal_model.specs.declared.states.Owner.{Owner}
-use Rattle.cmp_ports.specs.declared.fail_info.FailInfo.{FailInfo}
-use Rattle.cmp_ports.specs.declared.fail_info.FailInfo.TheVariants.{BadRequest, NotAuthorized, BadDataFormat}
+use Rattle.cmp_values.specs.declared.fail_info.FailInfo.{FailInfo}
+use Rattle.cmp_values.specs.declared.fail_info.FailInfo.TheVariants.{BadRequest, NotAuthorized, BadDataFormat}
 use Rattle.deal_table.specs.declared.look.Look.{Look}
 use Rattle.deal_table.specs.Message.{Facts}
 use Rattle.deal_table.specs.Table.{Decision, unless, pass, guarded, header_rows, wrap_rows, may_wrap, nested_count, trusted_by}

@@ -12,8 +12,8 @@ use Rattle.deal_model.specs.declared.asking.Job.TheVariants.{Repeat, Enrol, Conf
 use Rattle.deal_model.specs.declared.states.Owner.{Owner}
 use Rattle.deal_model.specs.declared.states.Standing.{Standing}
 use Rattle.deal_model.specs.declared.states.Standing.TheVariants.{Good}
-use Rattle.cmp_ports.specs.declared.fail_info.FailInfo.{FailInfo}
-use Rattle.cmp_ports.specs.declared.fail_info.FailInfo.TheVariants.{BadMessageCheck, BadAlg, BadDataFormat}
+use Rattle.cmp_values.specs.declared.fail_info.FailInfo.{FailInfo}
+use Rattle.cmp_values.specs.declared.fail_info.FailInfo.TheVariants.{BadMessageCheck, BadAlg, BadDataFormat}
 use Rattle.protect.specs.declared.key.Key as protection
 use Rattle.deal_table.specs.declared.look.Look.{Look}
 use Rattle.deal_table.specs.Carry.{IsJob, FitsChecked}
@@ -21,36 +21,16 @@ use Rattle.deal_table.specs.History.{Receipted}
 use Rattle.deal_table.specs.Looked.{looked_about, looked_passed}
 use Rattle.deal_table.specs.Message.{Body, Confirms, Header, Facts}
 use Rattle.deal_table.specs.Table.{◌when◌, To, Decision, Refuses, unless, pass, guard_by, guarded, known, header_rows, trusted_by, wrap_rows, repeated}
-use Rattle.intake.specs.Fit.{AtLook, IsCarried, PassesLook, AreDigests, IsHashTold, IsCompared, ComparesHash}
+use Rattle.intake.specs.Fit.{AtLook, IsCarried, PassesLook, AreDigests, IsHashTold, IsCompared, ComparesHash, TellsNoMore, TellsNobody, IsExact}
 use Rattle.intake.specs.Holds.{key_by}
 use Rattle.intake.specs.Letter.{IsReading, Checks, AreChecked, facts_of}
 use Rattle.intake.specs.Made.{FirstApplies, heading_of}
+pub use Rattle.intake.specs.Proven.{IsOfOctets, ForFacts, IsTo, IsBack}
 use Rattle.intake.specs.declared.unfit.Unfit.{Unfit}
 use Rattle.intake.specs.declared.unfit.Unfit.TheVariants.{Refused, NoMemory}
 use Rattle.intake.specs.declared.sender.Sender.{Sender}
 use Rattle.intake.specs.declared.job.Task.{Task}
 use Rattle.intake.specs.declared.subject.Subject.{Subject}
-
--- octets are the message
-pub record IsOfOctets (m : MessageForm) : Type 0 where
-  pub octets : List ℕ
-  pub is : IsMessage octets m
-
--- Something holds of the facts of a message.
-abbrev pub ForFacts : MessageForm → ((Receipted → List ℕ) → Facts → Type 0) → Type 0
-ForFacts m P = (hashes : Receipted → List ℕ) (bytes : List ℕ) (c : Checks) → AreChecked m c → P hashes (facts_of hashes bytes (Some m) c)
-
--- ---- refusals
-
--- whom a refusal answers
-pub record IsTo (is_guarded to_outer : Bool) (to : To) : Type 0 where
-  pub outer : to.outer ≡ to_outer
-  pub guard : is_some to.guard ≡ is_guarded
-
--- It is refused so, whatever would be decided next.
-abbrev pub IsBack : (X : Type 0) → (X → Decision) → Unfit → Type 0
-IsBack X decide (Refused fail is_guarded to_outer) = (to : To) × IsTo is_guarded to_outer to × ((next : X) → decide next ≡ Refuses fail to)
-IsBack X decide NoMemory = Unit {0}
 
 -- ---- senders
 
@@ -87,7 +67,7 @@ IsHashOf _ _ = Unit {0}
 -- Something is left of the message.
 abbrev pub IsLeft : Job → Type 0
 IsLeft Repeat = ⊥
-IsLeft (Enrol body wish old) = Unit {0}
+IsLeft (Enrol body wish) = Unit {0}
 IsLeft (Confirm id_ok hash hash_alg_ok count status) = Unit {0}
 IsLeft (Poll ids_ok) = Unit {0}
 IsLeft (Withdraw serial reason) = Unit {0}
@@ -99,6 +79,7 @@ pub record IsTask (look : Look) (name : List ℕ) (o : Owner) (hashes : Receipte
   pub told : AreDigests hashes → IsHashOf body t.hash_ok
   pub compared : IsCompared hashes body t.job t.hash_ok
   pub left : IsLeft t.job
+  pub no_more : TellsNoMore body t.job t.proven t.minus_one t.hash_ok
 
 -- One of these rows applies; a refusal answers the message itself, guarded as its sender is.
 abbrev pub IsRefused : Look → List ℕ → Bool → Owner → Body → Unfit → Type 0
@@ -123,7 +104,7 @@ pub record IsSent (look : Look) (hashes : Receipted → List ℕ) (f : Facts) (s
 
 abbrev pub IsSentFor : Look → (Receipted → List ℕ) → Facts → Subject → Job → Type 0
 IsSentFor look hashes f s Repeat = (place : ℕ) × (look.repeat ≡ Some place)
-IsSentFor look hashes f s (Enrol body wish old) = IsSent look hashes f s
+IsSentFor look hashes f s (Enrol body wish) = IsSent look hashes f s
 IsSentFor look hashes f s (Confirm id_ok hash hash_alg_ok count status) = IsSent look hashes f s
 IsSentFor look hashes f s (Poll ids_ok) = IsSent look hashes f s
 IsSentFor look hashes f s (Withdraw serial reason) = IsSent look hashes f s
@@ -134,6 +115,8 @@ pub record IsSubject (look : Look) (hashes : Receipted → List ℕ) (f : Facts)
   pub told : AreDigests hashes → IsHashOf f.body s.task.hash_ok
   pub compared : IsCompared hashes f.body s.task.job s.task.hash_ok
   pub sent : IsSentFor look hashes f s s.task.job
+  pub no_more : TellsNoMore f.body s.task.job s.task.proven s.task.minus_one s.task.hash_ok
+  pub nobody : TellsNobody s.task.job s.who s.key
 
 -- a certHash, where it has 32 octets
 abbrev pub IsDigestIn : Option (List ℕ) → Option (List ℕ) → Type 0
@@ -165,6 +148,7 @@ pub record IsWhole (bytes : List ℕ) (ask : Ask) (echo : Echo) (look : Look) (c
   pub carries : IsCarried bytes ask look c
   pub hash : IsHashTold bytes c
   pub compares : ComparesHash bytes c
+  pub exact : IsExact bytes c
   pub passes : AtLook bytes ask look (λ l h now. PassesLook look l h)
   pub fits : FitsChecked c
   pub asks : c.ask ≡ ask

@@ -1,16 +1,18 @@
 -- What the check of a request answers.
-use Rattle.std.specs.Prelude.{◌≡◌, ℕ, Bool, List, length, Option, Some, None}
+use Rattle.std.specs.Prelude.{◌≡◌, ℕ, Bool, true, false, List, [], length, replicate, Option, Some, None}
 use Rattle.std.specs.Str.{bytes_eq}
+use Rattle.deal_changes.specs.declared.change.Who.{Who}
+use Rattle.deal_changes.specs.declared.change.Who.TheVariants.{Cert}
 use Rattle.deal_model.specs.declared.asking.Ask.{Ask}
 use Rattle.deal_model.specs.declared.asking.Checked.{Checked}
 use Rattle.deal_model.specs.declared.asking.Job.{Job}
 use Rattle.deal_model.specs.declared.asking.Job.TheVariants.{Repeat, Enrol, Confirm, Poll, Withdraw}
 use Rattle.deal_model.specs.Views.{History}
 use Rattle.deal_table.specs.declared.look.Look.{Look}
-use Rattle.deal_table.specs.Carry.{Carries, untold, HashIsTold}
+use Rattle.deal_table.specs.Carry.{IsStatus, Carries, untold, HashIsTold}
 use Rattle.deal_table.specs.History.{Receipted, IsFounded, name_of, look_of}
 use Rattle.deal_table.specs.Looked.{looked, looked_to}
-use Rattle.deal_table.specs.Message.{Confirmation, Body, Confirms, Letter, subject_of}
+use Rattle.deal_table.specs.Message.{RequestId, Zero, MinusOne, OtherId, Confirmation, Body, Confirms, Polls, is_nested, Letter, subject_of}
 use Rattle.deal_table.specs.Table.{Decision, Refuses, repeated, decision}
 use Rattle.intake.specs.Letter.{IsLetter}
 use Rattle.intake.specs.declared.unfit.Unfit.{Unfit}
@@ -48,9 +50,49 @@ abbrev pub IsCompared : (Receipted → List ℕ) → Body → Job → Option Boo
 IsCompared hashes body (Confirm id_ok hash hash_alg_ok count status) None = (f : Confirmation) × (body ≡ Confirms f) × ((r : Receipted) → f.matches r ≡ Some (bytes_eq hash (hashes r)))
 IsCompared hashes body (Confirm id_ok hash hash_alg_ok count status) (Some told) = Unit {0}
 IsCompared hashes body Repeat told = Unit {0}
-IsCompared hashes body (Enrol wanted wish old) told = Unit {0}
+IsCompared hashes body (Enrol wanted wish) told = Unit {0}
 IsCompared hashes body (Poll ids_ok) told = Unit {0}
 IsCompared hashes body (Withdraw serial reason) told = Unit {0}
 
 abbrev pub ComparesHash : List ℕ → Checked → Type 0
 ComparesHash bytes c = (hashes : Receipted → List ℕ) (l : Letter) → IsLetter hashes bytes l → IsCompared hashes (subject_of l).body c.job c.hash_ok
+
+-- ---- nothing is told but what the message says
+
+abbrev pub is_minus_one : RequestId → Bool
+is_minus_one Zero = false
+is_minus_one MinusOne = true
+is_minus_one OtherId = false
+
+-- a hash is told, or zeros stand in its place
+abbrev pub IsHashOrZeros : List ℕ → Option Bool → Type 0
+IsHashOrZeros hash None = Unit {0}
+IsHashOrZeros hash (Some told) = (told ≡ false) × (hash ≡ replicate 32 0)
+
+-- Possession is told of a request alone, a certReqId of -1 of a certConf and a pollReq, and certHash of a certConf; of a certConf
+-- its certReqId, its algorithm and its status also where it has no status.
+abbrev pub TellsNoMore : Body → Job → Bool → Bool → Option Bool → Type 0
+TellsNoMore body Repeat proven minus_one told = (proven ≡ false) × (minus_one ≡ false) × (told ≡ None)
+TellsNoMore body (Enrol wanted wish) proven minus_one told = (minus_one ≡ false) × (told ≡ None)
+TellsNoMore (Confirms f) (Confirm id_ok hash hash_alg_ok count status) proven minus_one told = (proven ≡ false) × (minus_one ≡ is_minus_one f.id) × IsStatus f id_ok minus_one hash_alg_ok status × IsHashOrZeros hash told
+TellsNoMore (Polls p) (Poll ids_ok) proven minus_one told = (proven ≡ false) × (minus_one ≡ is_minus_one p.id) × (told ≡ None)
+TellsNoMore body (Withdraw serial reason) proven minus_one told = (proven ≡ false) × (minus_one ≡ false) × (told ≡ None)
+TellsNoMore _ _ proven minus_one told = ⊥
+
+-- of a message that stands in the history no sender is told
+abbrev pub TellsNobody : Job → Who → List ℕ → Type 0
+TellsNobody Repeat who key = (who ≡ Cert 0) × (key ≡ [])
+TellsNobody (Enrol wanted wish) who key = Unit {0}
+TellsNobody (Confirm id_ok hash hash_alg_ok count status) who key = Unit {0}
+TellsNobody (Poll ids_ok) who key = Unit {0}
+TellsNobody (Withdraw serial reason) who key = Unit {0}
+
+-- Each field of what was checked is told by the letter, or says nothing: of a message that no other one nests nothing is told of one
+-- around it.
+pub record TellsOnly (l : Letter) (c : Checked) : Type 0 where
+  pub no_more : TellsNoMore (subject_of l).body c.job c.proven c.minus_one c.hash_ok
+  pub nobody : TellsNobody c.job c.who c.key
+  pub around : is_nested l.message.body ≡ false → (c.outer_time ≡ None) × (c.outer_key ≡ None)
+
+abbrev pub IsExact : List ℕ → Checked → Type 0
+IsExact bytes c = (hashes : Receipted → List ℕ) (l : Letter) → IsLetter hashes bytes l → TellsOnly l c

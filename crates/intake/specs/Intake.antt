@@ -2,7 +2,7 @@
 use Rattle.std.specs.Prelude.{◌≡◌, ℕ, true, false, List}
 use Rattle.deal_model.specs.declared.asking.Echo.{Echo}
 use Rattle.deal_model.specs.Views.{History}
-use Rattle.cmp_ports.specs.declared.fail_info.FailInfo.{FailInfo}
+use Rattle.cmp_values.specs.declared.fail_info.FailInfo.{FailInfo}
 use Rattle.deal_table.specs.Carry.{IsReadable}
 use Rattle.deal_table.specs.History.{Receipted}
 use Rattle.deal_table.specs.Looked.{IsAskOf}

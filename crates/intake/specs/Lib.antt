@@ -8,5 +8,6 @@ pub mod Made
 pub mod Told
 pub mod Laws
 pub mod Fit
+pub mod Proven
 pub mod Checking
 pub mod Intake

@@ -5,7 +5,7 @@ use Rattle.pki_message.specs.Message.{MessageForm, IsMessage}
 use Rattle.deal_changes.specs.declared.change.Kind.{Kind}
 use Rattle.deal_model.specs.declared.asking.Ask.{Ask}
 use Rattle.deal_model.specs.declared.asking.Echo.{Echo}
-use Rattle.cmp_ports.specs.declared.fail_info.FailInfo.{FailInfo}
+use Rattle.cmp_values.specs.declared.fail_info.FailInfo.{FailInfo}
 use Rattle.deal_table.specs.Message.{Header, echo_of, echoed}
 use Rattle.deal_table.specs.Table.{Row, To, Decision, Refuses, unless, pass, tid_of, header_rows}
 use Rattle.intake.specs.Headers.{header_of}

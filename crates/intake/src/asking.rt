@@ -14,7 +14,7 @@ ghost use Rattle.intake.specs.Intake.{IsIntake};
 
 use crate::header::{echo, fault, kid, kind, transaction};
 use crate::request::Request;
-use cmp_ports::{FailInfo, Short};
+use cmp_values::{FailInfo, Short};
 use deal_changes::Kind;
 use deal_model::{Ask, Echo};
 use pki_header::Header;

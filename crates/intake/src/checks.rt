@@ -10,7 +10,7 @@ ghost use Rattle.deal_table.specs.History.{Receipted};
 ghost use Rattle.intake.specs.Holds.{IsProven};
 ghost use Rattle.intake.specs.Letter.{IsReading};
 ghost use Rattle.intake.specs.Made.{heading_of};
-ghost use Rattle.intake.specs.Fit.{AtLook, IsUnfit, IsCarried, PassesLook, IsHashTold, ComparesHash};
+ghost use Rattle.intake.specs.Fit.{AtLook, IsUnfit, IsCarried, PassesLook, IsHashTold, ComparesHash, IsExact};
 ghost use Rattle.intake.specs.Checking.{ForFacts, IsOfOctets, IsTrusted, IsBackAround, IsInner, IsBadInner, checked_by, IsWhole};
 
 use crate::about::about;
@@ -19,13 +19,12 @@ use crate::bodies::About;
 use crate::header::{fault, recipient_nonce};
 use crate::job::Task;
 use crate::request::Request;
-use crate::rows::may;
 use crate::sender::{Sender, trusted};
 use crate::subject::{Subject, check_subject};
 use crate::unfit::Unfit;
-use cmp_ports::FailInfo;
-use deal_model::{Checked, Echo, Key60};
-use deal_table::{Look, what_a_look_tells};
+use cmp_values::FailInfo;
+use deal_model::{Checked, Echo, Key60, WRAP};
+use deal_table::{Look, may, what_a_look_tells};
 use pki_message::Message;
 use std::alloc::Global;
 
@@ -127,7 +126,7 @@ fn wrapper(alloc: Global, m: &Message, look: &Look) -> Result<Sender, Unfit>
         Ok(sender) => sender,
         Err(unfit) => return Err(unfit),
     };
-    if !may(4, &sender.owner) {
+    if !may(WRAP, &sender.owner) {
         return Err(refused(FailInfo::NotAuthorized, sender.guarded, true));
     }
     if !nests_one(m) {
@@ -204,6 +203,8 @@ pub fn check<'a>(alloc: Global, r: &Request<'a>, look: &Look) -> Result<Checked<
     // What is told of a certConf's hash is true; where nothing is told the hash is there to be compared.
     ensures hash { IfOk result (IsHashTold r.now.bytes.now) }
     ensures compares { IfOk result (ComparesHash r.now.bytes.now) }
+    // Each field of what is checked is told by the message, or says nothing.
+    ensures exact { IfOk result (IsExact r.now.bytes.now) }
     // No row that the look tells refuses the message.
     ensures told { IfOk result (λ c. AtLook r.now.bytes.now r.now.ask look.now (λ l h now. PassesLook look.now l h)) }
     ensures fits { IfOk result FitsChecked }

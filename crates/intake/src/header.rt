@@ -10,7 +10,7 @@ ghost use Rattle.intake.specs.Headers.{kind_of, kid_of, header_of};
 ghost use Rattle.intake.specs.Made.{FirstApplies};
 
 use asn_types::{AlgorithmId, HSS_LMS};
-use cmp_ports::{FailInfo, Short};
+use cmp_values::{FailInfo, Short};
 use deal_changes::Kind;
 use deal_model::Echo;
 use pbmac::read_params;

@@ -8,18 +8,19 @@ ghost use Rattle.deal_table.specs.Message.{Enrols, Confirms, Polls, Withdraws};
 ghost use Rattle.pki_message.specs.Message.{message_of};
 ghost use Rattle.pki_message.specs.Body.{body_of};
 ghost use Rattle.intake.specs.Checking.{IsTask, IsRefused, IsDigestIn, name_for};
+ghost use Rattle.intake.specs.Fit.{is_minus_one};
 ghost use Rattle.intake.specs.Holds.{IsProven};
 ghost use Rattle.intake.specs.Told.{id_told, about_told, enrolling_told, confirming_told, polling_told, withdrawing_told, FitsAsked, FitsAbout};
-ghost use Rattle.deal_table.specs.Table.{is_possessed};
 
 use crate::bodies::{About, Confirming, Enrolling, Polling, ReqId, Withdrawing};
-use crate::rows::{may, new_fault, old_fault, reason_fault, wish_fault};
+use crate::possession::shows_possession;
+use crate::rows::{new_fault, old_fault, reason_fault, wish_fault};
 use crate::sender::Sender;
 use crate::unfit::Unfit;
-use crate::wish::{shows_key, wish};
+use crate::wish::wish;
 use asn_types::write_cn;
-use cmp_ports::{FailInfo, Octets};
-use deal_model::{Job, Owner};
+use cmp_values::{FailInfo, Octets};
+use deal_model::Job;
 use deal_table::Look;
 use pki_message::Message;
 use std::alloc::{AllocError, Global};
@@ -53,17 +54,6 @@ fn authority(alloc: Global, look: &Look) -> Result<Octets, AllocError>
     write_cn(alloc, look.settings.name.as_slice())
 }
 
-/// Whether the sender has the private key: by the word of one who may vouch, else by a signature.
-fn is_possessed(owner: &Owner, e: &Enrolling, m: &Message) -> bool
-    ensures { (proven : Bool) → (IsTrue proven ↔ IsProven (body_of m.now.body)) → is_possessed owner.now (enrolling_told proven e.now) ≡ result }
-{
-    if e.by_ra {
-        may(2, owner)
-    } else {
-        shows_key(&m.body)
-    }
-}
-
 /// What is left of a request for a certificate.
 fn enrolment(
     alloc: Global,
@@ -90,8 +80,8 @@ fn enrolment(
         return Err(Unfit::NoMemory);
     };
     Ok(Task {
-        job: Job::Enrol(e.body, wish, None),
-        proven: is_possessed(&sender.owner, e, m),
+        job: Job::Enrol(e.body, wish),
+        proven: shows_possession(&sender.owner, e, m),
         minus_one: false,
         hash_ok: None,
     })
@@ -99,7 +89,8 @@ fn enrolment(
 
 /// Whether a certReqId is 0 or -1, and whether it is -1.
 fn id_flags(id: ReqId) -> (bool, bool)
-    ensures { id_by result.0 result.1 ≡ id_told id }
+    ensures id { id_by result.0 result.1 ≡ id_told id }
+    ensures minus_one { result.1 ≡ is_minus_one (id_told id) }
 {
     match id {
         ReqId::Zero => (true, false),

@@ -13,6 +13,7 @@ mod job;
 mod keys;
 mod laws;
 mod others;
+mod possession;
 mod request;
 mod requests;
 mod rows;
@@ -25,7 +26,9 @@ mod wish;
 pub use asking::{Intake, ask_of};
 pub use checks::check;
 pub use laws::letters_fit;
+pub use possession::is_possessed;
 pub use request::Request;
+pub use sender::{Sender, proven};
 pub use unfit::Unfit;
 
 #[cfg(test)]

@@ -1,31 +1,25 @@
 //! Rows of the table that ask a look and a body alone.
 ghost use Rattle.std.specs.Prelude.{◌≡◌, ◌≤◌, ◌&&◌, ◌||◌, Bool, not, is_some};
 ghost use Rattle.std.specs.Option.{option_copied};
-ghost use Rattle.deal_table.specs.Table.{may, may_enrol, is_certificate, is_kur, is_other_name, is_named, is_serial_of, is_other_old, wish_rows, reason_rows, new_rows, old_rows};
+ghost use Rattle.deal_table.specs.Table.{may_enrol, is_certificate, is_kur, is_other_name, is_named, is_serial_of, is_other_old, wish_rows, reason_rows, new_rows, old_rows};
 ghost use Rattle.intake.specs.Made.{FirstApplies};
 ghost use Rattle.intake.specs.Told.{named_told, enrolling_told, withdrawing_told};
 ghost use Rattle.std.specs.Prelude.{option_map};
 
 use crate::bodies::{CertName, Enrolling, Withdrawing};
-use cmp_ports::FailInfo;
+use cmp_values::FailInfo;
 use deal_changes::{Body4, Who};
-use deal_model::{DealState, Owner};
-
-/// Whether the sender has this right: enrol 1, vouch 2, wrap 4, revoke 8.
-pub(crate) fn may(right: u8, owner: &Owner) -> bool
-    requires { 1 ≤ right }
-    ensures { result ≡ may right owner.now }
-{
-    owner.rights / right % 2 == 1
-}
+use deal_model::{DealState, ENROL, Owner};
+use deal_table::{is_deal, is_unused, may};
 
 /// A request or a revocation begins a transaction.
 pub(crate) fn new_fault(state: DealState) -> Option<FailInfo>
     ensures { FirstApplies (new_rows state) result }
 {
-    match state {
-        DealState::Unused => None,
-        _ => Some(FailInfo::TransactionIdInUse),
+    if is_unused(state) {
+        None
+    } else {
+        Some(FailInfo::TransactionIdInUse)
     }
 }
 
@@ -33,9 +27,10 @@ pub(crate) fn new_fault(state: DealState) -> Option<FailInfo>
 pub(crate) fn old_fault(state: DealState) -> Option<FailInfo>
     ensures { FirstApplies (old_rows state) result }
 {
-    match state {
-        DealState::Unused | DealState::Other => Some(FailInfo::BadRequest),
-        _ => None,
+    if is_deal(state) {
+        None
+    } else {
+        Some(FailInfo::BadRequest)
     }
 }
 
@@ -82,7 +77,7 @@ fn is_other_old(name: &[u8], owner: &Owner, old: &Option<CertName>) -> bool
 fn is_unauthorized(owner: &Owner, body: Body4) -> bool
     ensures { result ≡ (not (may_enrol owner.now) || (is_kur body && not (is_certificate owner.now.who))) }
 {
-    !may(1, owner) || (body == Body4::Kur && !matches!(owner.who, Who::Cert(_)))
+    !may(ENROL, owner) || (body == Body4::Kur && !matches!(owner.who, Who::Cert(_)))
 }
 
 /// Whether a certificate can't be given so.

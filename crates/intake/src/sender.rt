@@ -1,27 +1,30 @@
 //! Who sent a message, and when.
 ghost use Rattle.std.specs.Prelude.{◌≡◌, ◌↔◌, ◌&&◌, ℕ, List, Some, false, IfOk, IfErr, IsTrue, is_some, option_map};
 ghost use Rattle.deal_model.specs.declared.states.Owner.{Owner};
-ghost use Rattle.deal_table.specs.Table.{Decision, guard_by, is_apart, trusted_by};
+ghost use Rattle.deal_table.specs.Table.{Decision, guard_by, proven_by, trusted_by};
 ghost use Rattle.pki_message.specs.Message.{message_of};
 ghost use Rattle.protect.specs.Holds.{ProtectionHolds};
 ghost use Rattle.intake.specs.Holds.{key_by};
-ghost use Rattle.intake.specs.Checking.{ForFacts, IsOfOctets, IsProtection, IsKnown, IsBack, IsTrusted, IsKeyBy};
+ghost use Rattle.intake.specs.Proven.{ForFacts, IsOfOctets, IsBack, IsVerified};
+ghost use Rattle.intake.specs.Checking.{IsProtection, IsKnown, IsTrusted, IsKeyBy};
 ghost use Rattle.std.specs.Option.{option_copied};
 ghost use Rattle.asn_types.specs.Algorithm.{algorithm_of};
 ghost use Rattle.intake.specs.Headers.{kind_of};
 
 use crate::header::kind;
 use crate::unfit::Unfit;
-use cmp_ports::FailInfo;
+use cmp_values::FailInfo;
 use deal_changes::Kind;
 use deal_model::{Key60, Owner, Standing};
+use deal_table::is_apart;
 use pki_message::Message;
 use protect::{CheckFault, Key, messages_are_checked, protection_ok};
 use std::alloc::{AllocError, Global};
 
 /// A sender that is known and whose protection verifies.
 #[derive(Clone, Copy, Debug)]
-pub(crate) struct Sender {
+pub struct Sender {
+    /// To whom the credential belongs, with its secret or key and its rights.
     pub owner: Owner,
     /// Its secret protects what it is answered.
     pub guarded: bool,
@@ -111,30 +114,13 @@ fn is_guarded(kind: Kind) -> bool
     }
 }
 
-/// Whether a message's time is more than so many seconds from the event's.
-fn is_apart(skew: u32, event: u64, time: Option<u64>) -> bool
-    ensures { result ≡ is_apart skew event time }
-{
-    match time {
-        None => false,
-        Some(time) if time < event => event - time > u64::from(skew),
-        Some(time) => time - event > u64::from(skew),
-    }
-}
-
-/// The sender of a message by its credential's standing: the message is protected, the sender is known and good, the protection
-/// verifies, and the message's time is near enough to the event's.
-pub(crate) fn trusted(
-    alloc: Global,
-    m: &Message,
-    standing: &Standing,
-    skew: u32,
-    event: u64,
-    outer: bool,
-) -> Result<Sender, Unfit>
+/// Who sent a message, by how the credential stands that it names: the message is protected, by a kind that is served, its sender is
+/// known and good, and the protection verifies under the sender's secret or key. `Refused` where one of these rows of the table
+/// applies, to the outer header or the message's own, and unprotected; `NoMemory` where memory runs out.
+pub fn proven(alloc: Global, m: &Message, standing: &Standing, outer: bool) -> Result<Sender, Unfit>
     requires { IsOfOctets (message_of m.now) }
-    ensures ok { IfOk result (λ s. ForFacts (message_of m.now) (λ hashes f. IsTrusted standing.now skew event outer f s)) }
-    ensures err { IfErr result (λ u. ForFacts (message_of m.now) (λ hashes f. IsBack (Owner → Decision) (trusted_by standing.now skew event outer f) u)) }
+    ensures verified { IfOk result (λ s. ForFacts (message_of m.now) (λ hashes f. IsVerified standing.now outer f s)) }
+    ensures refused { IfErr result (λ u. ForFacts (message_of m.now) (λ hashes f. IsBack (Owner → Decision) (proven_by standing.now outer f) u)) }
 {
     let kind = match protection_kind(m) {
         Ok(kind) => kind,
@@ -150,13 +136,35 @@ pub(crate) fn trusted(
     if !holds {
         return Err(bare(FailInfo::BadMessageCheck, outer));
     }
-    let guarded = is_guarded(kind);
+    Ok(Sender {
+        owner,
+        guarded: is_guarded(kind),
+    })
+}
+
+/// The same, and the message's time is near enough to the event's.
+pub(crate) fn trusted(
+    alloc: Global,
+    m: &Message,
+    standing: &Standing,
+    skew: u32,
+    event: u64,
+    outer: bool,
+) -> Result<Sender, Unfit>
+    requires { IsOfOctets (message_of m.now) }
+    ensures ok { IfOk result (λ s. ForFacts (message_of m.now) (λ hashes f. IsTrusted standing.now skew event outer f s)) }
+    ensures err { IfErr result (λ u. ForFacts (message_of m.now) (λ hashes f. IsBack (Owner → Decision) (trusted_by standing.now skew event outer f) u)) }
+{
+    let sender = match proven(alloc, m, standing, outer) {
+        Ok(sender) => sender,
+        Err(unfit) => return Err(unfit),
+    };
     if is_apart(skew, event, m.header.time) {
         return Err(Unfit::Refused {
             fail: FailInfo::BadTime,
-            guarded,
+            guarded: sender.guarded,
             to_outer: outer,
         });
     }
-    Ok(Sender { owner, guarded })
+    Ok(sender)
 }

@@ -14,7 +14,7 @@ use crate::about::about;
 use crate::job::{Task, task_of};
 use crate::sender::trusted;
 use crate::unfit::Unfit;
-use cmp_ports::{FailInfo, Short};
+use cmp_values::{FailInfo, Short};
 use deal_changes::Who;
 use deal_model::{Job, Key60};
 use deal_table::Look;

@@ -1,7 +1,7 @@
 //! Messages at the limits of what a header must have, by Python from X.690 (tests/vectors/ask_vectors.py).
 
 use crate::{Intake, ask_of};
-use cmp_ports::{FailInfo, Short};
+use cmp_values::{FailInfo, Short};
 use deal_changes::Kind;
 use std::process::Abort;
 use std::test::Fail;

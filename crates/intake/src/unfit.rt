@@ -1,6 +1,6 @@
 //! Why a request is unfit.
 
-use cmp_ports::FailInfo;
+use cmp_values::FailInfo;
 
 /// Why a message is refused by what a look at the history tells, or that memory ran out.
 #[derive(Clone, Copy, Debug, PartialEq, Eq)]

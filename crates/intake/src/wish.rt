@@ -15,7 +15,7 @@ ghost use Rattle.intake.specs.Told.{asked_wish, FitsAskedKey, FitsAsked};
 use crate::bodies::Asked;
 use crate::extensions::{alt_name, are_dropped, usage};
 use asn_types::{Extension, Spki, write_extension, write_spki};
-use cmp_ports::Octets;
+use cmp_values::Octets;
 use deal_changes::Wish;
 use hss_sig::hss_ok;
 use pki_message::Body;

@@ -1,6 +1,6 @@
 -- by the rows of transactions and of wishes, one behind the other
 use Rattle.std.proofs.Common.{◌≡◌, refl, sym, ap, subst, ◌∙◌, List, ℕ, Some, None, false}
-use Rattle.cmp_ports.specs.declared.fail_info.FailInfo.{FailInfo}
+use Rattle.cmp_values.specs.declared.fail_info.FailInfo.{FailInfo}
 use Rattle.deal_table.specs.Table.{new_rows, wish_rows}
 use Rattle.intake.specs.Checking.{name_for}
 use Rattle.intake.specs.Made.{FirstApplies}
@@ -26,11 +26,12 @@ returns-clause-ok c = λ hashes proven is.
     let named = c.as_slice.ensures ∙ c.in-Ok.ensures in
     let rows = subst (λ (name : List ℕ). FirstApplies (wish_rows name c.args.sender.now.owner (enrolling_told proven c.args.e.now)) None) named (c.in_default-wish_fault.ensures proven) in
     record {
-      job = λ k same minus. (rows, refl, sym c.in-Ok-wish.ensures.made, c.is_possessed.ensures proven is ∙ sym same);
+      job = λ k same minus. (rows, refl, sym c.in-Ok-wish.ensures.made, c.shows_possession.ensures proven is ∙ sym same);
       passes = λ to next. both_pass to (new_rows look.tid_state) (wish_rows (name_for look) o e) next c.in_default.ensures rows;
       told = λ digests. tt;
       compared = tt;
       left = tt;
+      no_more = (refl, refl);
     }
 
 pub returns-clause-fits : goal.returns-clause-fits

@@ -1,27 +1,21 @@
--- by the rows of a sender, one behind the other
+-- who sent it, and then its time
 use Rattle.std.proofs.Common.{◌≡◌, sym, ◌∙◌, Some}
 use Rattle.pki_message.specs.Message.{message_of}
 use Rattle.deal_table.specs.Message.{Facts}
 use Rattle.intake.specs.Letter.{facts_of}
-use Rattle.intake.proofs.SenderLemmas.{back_protection, back_known, back_check, back_time, verified_is}
+use Rattle.intake.proofs.SenderLemmas.{back_proven, back_time, is_trusted}
 use Rattle.intake.proofs.sender.trusted.Goals as goal
 
 pub returns-in-Err-clause-err : goal.returns-in-Err-clause-err
-returns-in-Err-clause-err c = rw c.bare.ensures (λ hashes bytes k checked.
-    back_protection c.args.standing.now c.args.skew c.args.event c.args.outer (facts_of hashes bytes (Some (message_of c.args.m.now)) k) c.in-Err.fail c.in-Err.ensures)
-
-pub returns-in-Err-known-clause-err : goal.returns-in-Err-known-clause-err
-returns-in-Err-known-clause-err c = rw c.bare-in-Err-known.ensures (λ hashes bytes k checked.
-    back_known c.args.standing.now c.args.skew c.args.event c.args.outer (facts_of hashes bytes (Some (message_of c.args.m.now)) k) c.in-Ok.kind c.in-Ok.ensures.0 c.in-Ok.ensures.1 c.in-Err-known.fail c.in-Err-known.ensures)
-
-pub returns-then-not-holds-clause-err : goal.returns-then-not-holds-clause-err
-returns-then-not-holds-clause-err c = rw c.bare-then-not-holds.ensures (λ hashes bytes k checked.
-    let e = verified_is (message_of c.args.m.now) k c.in-Ok.kind c.in-Ok-known.owner.key c.in-Ok-verifies.holds checked c.in-Ok.ensures.1 c.in-Ok-verifies.ensures in
-    back_check c.args.standing.now c.args.skew c.args.event c.args.outer (facts_of hashes bytes (Some (message_of c.args.m.now)) k) c.in-Ok.kind c.in-Ok.ensures.0 c.in-Ok.ensures.1 c.in-Ok-known.owner c.in-Ok-known.ensures (e ∙ c.if-not-holds.true))
+returns-in-Err-clause-err c = λ hashes bytes k checked.
+    back_proven c.args.standing.now c.args.outer (facts_of hashes bytes (Some (message_of c.args.m.now)) k) c.args.skew c.args.event c.in-Err.unfit (c.in-Err.ensures.refused hashes bytes k checked)
 
 pub returns-then-is_apart-clause-err : goal.returns-then-is_apart-clause-err
 returns-then-is_apart-clause-err c = λ hashes bytes k checked.
     let f : Facts = facts_of hashes bytes (Some (message_of c.args.m.now)) k in
-    let e = verified_is (message_of c.args.m.now) k c.in-Ok.kind c.in-Ok-known.owner.key c.in-Ok-verifies.holds checked c.in-Ok.ensures.1 c.in-Ok-verifies.ensures in
-    back_time c.args.standing.now c.args.skew c.args.event c.args.outer f c.in-Ok.kind c.in-Ok.ensures.0 c.in-Ok.ensures.1 c.in-Ok-known.owner c.in-Ok-known.ensures c.is_guarded-guarded.result
-    (rw c.in-Ok.ensures.1 (c.is_guarded-guarded.ensures f.header.kid c.in-Ok-known.owner)) (e ∙ c.if-not-holds.false) (sym c.is_apart.ensures ∙ c.if-is_apart.true)
+    back_time c.args.standing.now c.args.outer f c.args.skew c.args.event c.in-Ok.sender (c.in-Ok.ensures.verified hashes bytes k checked) (sym c.is_apart.ensures ∙ c.if-is_apart.true)
+
+pub returns-clause-ok : goal.returns-clause-ok
+returns-clause-ok c = λ hashes bytes k checked.
+    let f : Facts = facts_of hashes bytes (Some (message_of c.args.m.now)) k in
+    is_trusted c.args.standing.now c.args.outer f c.args.skew c.args.event c.in-Ok.sender (c.in-Ok.ensures.verified hashes bytes k checked) (sym c.is_apart.ensures ∙ c.if-is_apart.false)
