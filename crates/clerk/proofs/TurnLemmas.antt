@@ -19,9 +19,14 @@ pub seen_lawful : {P : Type 0} (seen h : History) → seen ≡ h → ∥ Legal h
 seen_lawful seen h is t = ∥∥₁_map t (λ l. (subst Legal (sym is) l.0, tt))
 
 -- a mark that was handed in raised the count
-pub marked : {M : Type 0} (mark : Option M) (Failed R : Type 0) (P : M → Type 0) → MatchOption mark (Failed → ⊥) P → MatchOption mark (Unit {0}) (λ m. R) → Failed → R
-marked None Failed R P none rose failed = absurd (none failed)
-marked (Some m) Failed R P some rose failed = rose
+pub marked : {M : Type 0} (mark : Option M) (Failed Still R : Type 0) (P : M → Type 0) → MatchOption mark (Failed → ⊥) P → MatchOption mark Still (λ m. R) → Failed → R
+marked None Failed Still R P none rose failed = absurd (none failed)
+marked (Some m) Failed Still R P some rose failed = rose
+
+-- without a fault there is no mark, and the count stands
+pub unmarked : {M : Type 0} (mark : Option M) (Failed Still R : Type 0) (P : M → Type 0) → MatchOption mark (Failed → ⊥) (λ m. Failed × P m) → MatchOption mark Still (λ m. R) → (Failed → ⊥) → Still
+unmarked None Failed Still R P none still unfailed = still
+unmarked (Some m) Failed Still R P some rose unfailed = absurd (unfailed some.0)
 
 -- a message that is decided over a history is decided so by whoever has seen a beginning of it
 pub decides_earlier : (l : Letter) (c : Checked) (seen old new : History) (now : ℕ) (w : List ℕ) (v : Verdict) → Begins seen old → Decides l c old new now w v → Decides l c seen new now w v

@@ -14,7 +14,8 @@ use turnstile::{Seat, Turnstile};
 /// Keeps the mark of a desk's last call, where the disk failed under it.
 fn keep_mark<D: Disk>(marks: &mut FaultMarks, desk: &mut Desk<D>)
     ensures history { desk.new.history ≡ desk.old.history }
-    ensures rose { MatchOption desk.old.mark (Unit {0}) (λ _. Rose marks.old marks.new) }
+    ensures none { desk.new.mark ≡ None }
+    ensures rose { MatchOption desk.old.mark (marks.new ≡ marks.old) (λ _. Rose marks.old marks.new) }
     ensures later { marks.old ≤ marks.new }
 {
     if let Some(mark) = desk.fault() {
@@ -74,7 +75,9 @@ impl<'a, D: Disk + Drop, R: Wait> SharedClerk<'a, D, R> {
 }
 
 impl<'a, D: Disk + Drop, R: Wait> Clerk for SharedClerk<'a, D, R> {
-    ghost seen = { λ k. k.seat.me.0.seen };
+    ghost use Rattle.desk.specs.History.{changes_in};
+
+    ghost seen = { λ k. changes_in k.seat.me.0.seen };
 
     ghost mine = { λ k. k.seat.me.0.mine };
 

@@ -1,5 +1,5 @@
 //! Two clerks over one desk, whose log tests/vectors/log_vectors.py lays out with Python's `struct`.
-ghost use Rattle.std.specs.Prelude.{◌≡◌};
+ghost use Rattle.std.specs.Prelude.{◌≡◌, None, IfOk};
 ghost use Rattle.turnstile.specs.Steps.{Rests};
 
 use crate::SharedClerk;
@@ -19,7 +19,9 @@ const LOG: &str =
 const DEADLINE: u64 = 1_700_000_300;
 
 /// The desk over the log.
-fn mounted(alloc: Global) -> Result<Desk<MemDisk>, Fail> {
+fn mounted(alloc: Global) -> Result<Desk<MemDisk>, Fail>
+    ensures { IfOk result (λ d. d.mark ≡ None) }
+{
     let octets: Vec<u8> = decode(alloc, LOG)?;
     match Desk::mount(alloc, MemDisk::new(octets)) {
         Ok(desk) => Ok(desk),

@@ -1,7 +1,8 @@
-ghost use Rattle.std.specs.Prelude.{◌≡◌};
+ghost use Rattle.std.specs.Prelude.{◌≡◌, None};
 ghost use Rattle.deal_table.specs.Carry.{FitsChecked};
 ghost use Rattle.turnstile.specs.Lists.{Extends};
 ghost use Rattle.turnstile.specs.Steps.{Rests};
+ghost use Rattle.desk.specs.History.{history_of};
 
 use crate::desks::{LISTED, NOW, mounted};
 use crate::meeting::{Heard, Told, outcome_of};
@@ -17,7 +18,8 @@ use turnstile::{Seat, Turnstile};
 
 // Dismisses a reference, and tells whether that made a change.
 fn dismiss(desk: &mut Desk<MemDisk>, kid: &Short) -> bool
-    ensures { Extends desk.old.history.items desk.new.history.items }
+    ensures grown { Extends (history_of desk.old) (history_of desk.new) }
+    ensures mark { desk.new.mark ≡ desk.old.mark }
 {
     match desk.dismiss(Kind::Mac, kid, NOW) {
         Listing::Done { .. } => true,
@@ -74,7 +76,9 @@ fn told_after_dismissal<R: Wait>(
     rt: &R,
     alloc: Global,
     desk: Desk<MemDisk>,
-) -> Option<(Heard, bool, u64)> {
+) -> Option<(Heard, bool, u64)>
+    requires { desk.mark ≡ None }
+{
     let Some(checked) = checked_of(alloc, Request::One) else {
         return None;
     };

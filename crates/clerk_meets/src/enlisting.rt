@@ -1,4 +1,4 @@
-ghost use Rattle.std.specs.Prelude.{◌≡◌, ◌+◌, ◌≤◌, ◌<◌, length, IfOk};
+ghost use Rattle.std.specs.Prelude.{◌≡◌, ◌+◌, ◌≤◌, ◌<◌, length, None, IfOk};
 ghost use Rattle.desk.specs.Listings.{AreFit};
 ghost use Rattle.turnstile.specs.Lists.{Extends};
 ghost use Rattle.turnstile.specs.Steps.{Rests};
@@ -46,6 +46,7 @@ trait Lister: Chronicle {
         requires one { length list.now ≡ 1 }
         ensures one { result ≤ 1 }
         ensures grown { Extends (Self.history self.old) (Self.history self.new) }
+        ensures kept { Self.kept self.old → Self.kept self.new }
         ensures count { length (Self.history self.new) ≡ length (Self.history self.old) + result };
 }
 
@@ -137,7 +138,9 @@ fn listed_by_two<R: Threads + Wait + Sync>(
     rt: &R,
     alloc: Global,
     desk: Desk<MemDisk>,
-) -> Option<(u64, u64, u64)> {
+) -> Option<(u64, u64, u64)>
+    requires { desk.mark ≡ None }
+{
     let Ok((stile, seat)) = Turnstile::new(alloc, desk, 2) else {
         return None;
     };

@@ -1,4 +1,4 @@
-ghost use Rattle.std.specs.Prelude.{◌≡◌};
+ghost use Rattle.std.specs.Prelude.{◌≡◌, None};
 ghost use Rattle.turnstile.specs.Steps.{Rests};
 
 use crate::desks::{LISTED, NOW, mounted};
@@ -153,7 +153,9 @@ fn met_at<R: Threads + Wait + Sync>(
     alloc: Global,
     desk: Desk<MemDisk>,
     request: Request,
-) -> Option<Meeting> {
+) -> Option<Meeting>
+    requires { desk.mark ≡ None }
+{
     let Ok((stile, seat)) = Turnstile::new(alloc, desk, 2) else {
         return None;
     };

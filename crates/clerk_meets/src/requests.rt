@@ -73,7 +73,7 @@ fn checked(digest: u8, tid: Short, wish: Wish) -> Checked<'static>
         who: Who::Listed(Kind::Mac, kid),
         key,
         message_time: None,
-        job: Job::Enrol(Body4::Ir, wish, None),
+        job: Job::Enrol(Body4::Ir, wish),
         echo: Echo {
             pvno: 2,
             sender: b"\xa4\x00",

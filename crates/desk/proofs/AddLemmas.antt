@@ -2,6 +2,7 @@
 use Rattle.std.proofs.Common.{◌≡◌, ◌⊎◌, inl, inr, ℕ, ◌+◌, Bool, true, false, List, [], ◌∷◌, ◌++◌, length, Option, Some, None, Result, Ok, Err, ◌<◌, ◌≤◌, refl, sym, ◌∙◌, subst, arith}
 use Rattle.std.specs.Prelude.{IfSome, IsTrue, is_some, is_ok, OnErr, if◌then◌else◌}
 use Rattle.std.proofs.Math.Logic.{∥∥₁_map}
+use Rattle.std.proofs.lemmas.Option.{none-some}
 use Rattle.journal_core.specs.declared.journal.Journal.{Journal}
 use Rattle.journal_core.specs.Log as log
 use Rattle.journal_core.specs.Log.{log_of}
@@ -12,7 +13,7 @@ use Rattle.deal_model.specs.Views.{History}
 use Rattle.deal_model.specs.Rules.{Allowed, Legal}
 use Rattle.deal_model.proofs.Histories.{legal_more}
 use Rattle.journal_core.specs.Log.{IsBeforeOrAfter}
-use Rattle.desk.specs.Images.{magic, spellings, doubtful, IsDoubt, RecoversWith, Keeps}
+use Rattle.desk.specs.Images.{magic, spellings, doubtful, IsDoubt, DoubtOr, MayCome, RecoversWith, Keeps}
 use Rattle.desk.specs.Calls.{Fits, is_full}
 use Rattle.desk.proofs.Kept.{spellings_push, either_with}
 use Rattle.desk.proofs.LawfulLemmas.{is_past, allowed}
@@ -52,8 +53,8 @@ has_room h c entry spelled f never =
 pub has_no_room : (h : History) (c : Change) (entry : List ℕ) → entry ≡ spelling c → IsTrue (is_past_limit (length (spellings h)) (length (log_of magic (spellings h))) (length entry + 5)) → IsTrue (is_full h c)
 has_no_room h c entry spelled past = sym (is_past h c) ∙ subst (λ (e : List ℕ). IsTrue (is_past_limit (length (spellings h)) (length (log_of magic (spellings h))) (length e + 5))) spelled past
 
-pub own_left : (h : History) (c : Change) (entry image : List ℕ) → entry ≡ spelling c → log.Recovers magic image (spellings h) ⊎ log.Recovers magic image (spellings h ++ entry ∷ []) → RecoversWith h (λ x. x ≡ c) image
-own_left h c entry image spelled left = either_with h c image (λ x. x ≡ c) refl (subst (λ (e : List ℕ). log.Recovers magic image (spellings h) ⊎ log.Recovers magic image (spellings h ++ e ∷ [])) spelled left)
+pub own_left : (h : History) (c : Change) (entry image : List ℕ) → entry ≡ spelling c → Allowed h c → log.Recovers magic image (spellings h) ⊎ log.Recovers magic image (spellings h ++ entry ∷ []) → RecoversWith h (MayCome (λ x. x ≡ c) h) image
+own_left h c entry image spelled a left = either_with h c image (MayCome (λ x. x ≡ c) h) (refl, a) (subst (λ (e : List ℕ). log.Recovers magic image (spellings h) ⊎ log.Recovers magic image (spellings h ++ e ∷ [])) spelled left)
 
 pub doubt_keeps : (h : History) (c : Change) (entry : List ℕ) (journal : Journal) (images : List ℕ → Type 0) → entry ≡ spelling c → IsKept magic (spellings h) entry journal images × (is_doubtful journal ≡ true) → Keeps h (Some c) journal images
 doubt_keeps h c entry journal images spelled o = (subst (λ (e : List ℕ). IsKept magic (spellings h) e journal images) spelled o.0, o.1)
@@ -75,3 +76,37 @@ with_less h A B image less (inr longer) = inr (longer.0, less longer.0 longer.1,
 
 pub same_less : (h g : History) (A B : Change → Type 0) (image : List ℕ) → g ≡ h → ((c : Change) → A c → B c) → RecoversWith g A image → RecoversWith h B image
 same_less h g A B image same less left = with_less h A B image less (subst (λ (l : History). RecoversWith l A image) same left)
+
+-- where nothing is in doubt an image has the history alone
+pub clear_left : (h : History) (doubt : Option Change) (B : Change → Type 0) (image : List ℕ) → doubt ≡ None → RecoversWith h (IsDoubt doubt) image → RecoversWith h B image
+clear_left h doubt B image none left = with_less h (IsDoubt doubt) B image (λ c is. absurd (none-some c (sym none ∙ is))) left
+
+-- ---- what is in doubt afterwards
+
+pub no_doubt : (e : Option Change) (P : Change → Type 0) → e ≡ None → IfSome e P
+no_doubt e P none = subst (λ (x : Option Change). IfSome x P) (sym none) tt
+
+pub kept_doubt : (d : Option Change) (Own : Change → Type 0) → IfSome d (DoubtOr d Own)
+kept_doubt None Own = tt
+kept_doubt (Some c) Own = inl refl
+
+pub still_doubt : (d e : Option Change) (Own : Change → Type 0) → e ≡ d → IfSome e (DoubtOr d Own)
+still_doubt d e Own same = subst (λ (x : Option Change). IfSome x (DoubtOr d Own)) (sym same) (kept_doubt d Own)
+
+pub doubt_less : (e : Option Change) (A B : Change → Type 0) → ((c : Change) → A c → B c) → IfSome e A → IfSome e B
+doubt_less None A B less held = tt
+doubt_less (Some c) A B less held = less c held
+
+-- the call's own change, told in other words
+pub own_less : (d : Option Change) (h : History) (A B : Change → Type 0) → ((c : Change) → A c → B c) → (c : Change) → DoubtOr d (MayCome A h) c → DoubtOr d (MayCome B h) c
+own_less d h A B less c (inl is) = inl is
+own_less d h A B less c (inr own) = inr (less c own.0, own.1)
+
+-- a change that may come behind the same history
+pub may_still : (h g : History) (A : Change → Type 0) (d : Option Change) (c : Change) → g ≡ h → MayCome A g c → DoubtOr d (MayCome A h) c
+may_still h g A d c same own = inr (own.0, subst (λ (l : History). Allowed l c) same own.1)
+
+-- what is there is such a one, where each such one is of the wider sort
+pub if_some_less : (P Q : Change → Type 0) (o : Option Change) → ((x : Change) → P x → Q x) → IfSome o P → IfSome o Q
+if_some_less P Q None less is = tt
+if_some_less P Q (Some x) less is = less x is

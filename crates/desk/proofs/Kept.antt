@@ -5,13 +5,14 @@ use Rattle.std.proofs.Props.{props}
 use Rattle.std.proofs.lemmas.List.{drop_at, map-append}
 use Rattle.std.proofs.lemmas.Bool.{cases_eq}
 use Rattle.std.proofs.lemmas.Grind.{common_steps}
+use Rattle.cmp_ports.specs.Disk.{Every}
 use Rattle.journal_core.specs.declared.journal.Journal.{Journal}
 use Rattle.journal_core.specs.declared.journal.Doubt.{Doubt}
 use Rattle.journal_core.specs.declared.journal.Doubt.TheVariants.{Clear, Before, Gate}
 use Rattle.journal_core.specs.Log.{framed, records, log_of, ClosedAfter, AreSmall}
 use Rattle.journal_core.specs.Log as log
 use Rattle.journal_core.specs.Staged.{StagedAfter}
-use Rattle.journal_core.specs.Journal.{IsInState, IsKeptAs, is_in_doubt}
+use Rattle.journal_core.specs.Journal.{IsInState, IsKeptAs, IsAtRest, is_in_doubt}
 use Rattle.deal_changes.specs.declared.change.Change.{Change}
 use Rattle.deal_changes.specs.Spelling.{spelling}
 use Rattle.deal_model.specs.Views.{History}
@@ -133,6 +134,12 @@ at_rest : (state : Doubt) (h : History) (image : List ℕ) (body : List ℕ) (im
 at_rest Clear h image body images clear small state here = record { small = small; closed = state image here }
 at_rest Before h image body images clear small state here = absurd (cc clear)
 at_rest Gate h image body images clear small state here = absurd (cc clear)
+
+-- nothing is in doubt, and the payloads spell the history: each image recovers to it
+pub replayed_images : (h : History) (payloads : List (List ℕ)) (journal : Journal) (images : List ℕ → Type 0) → payloads ≡ spellings h → IsAtRest magic payloads journal images → Every images (λ image. Recovers image h)
+replayed_images h payloads journal images spelled rest =
+    let there = subst (λ (l : List (List ℕ)). IsAtRest magic l journal images) spelled rest in
+    λ image here. at_rest journal.doubt h image (framed []) images there.1 there.0.small there.0.state here
 
 pub keeps_images : (h : History) (doubt : Option Change) (journal : Journal) (images : List ℕ → Type 0) → Keeps h doubt journal images → Images images h doubt
 keeps_images h None journal images keeps = λ image here. inl (at_rest journal.doubt h image (framed []) images keeps.1 keeps.0.small keeps.0.state here)

@@ -1,6 +1,6 @@
 -- That a change with a stamp may come next has one proof, so it may be taken out of what a desk keeps.
-use Rattle.std.proofs.Common.{◌≡◌, ℕ, Bool, true, List, Option, Some, None}
-use Rattle.std.specs.Prelude.{is_some, IfSome, IsSome, ◌<◌}
+use Rattle.std.proofs.Common.{◌≡◌, ℕ, Bool, true, Option, Some, None}
+use Rattle.std.specs.Prelude.{is_some, IfSome, IsSome}
 use Rattle.std.proofs.Props.{props}
 use Rattle.deal_changes.specs.declared.change.Kind.TheVariants.{Mac, Lms}
 use Rattle.deal_changes.specs.declared.change.Who.{Who}
@@ -14,7 +14,6 @@ use Rattle.deal_changes.specs.Spelling.{IsWho, IsStamp, IsWish}
 use Rattle.deal_changes.specs.Times.{stamp_of}
 use Rattle.deal_model.specs.declared.states.DealState.{DealState}
 use Rattle.deal_model.specs.declared.states.DealState.TheVariants.{Unused, Held, Released, Denied, Open, Closed, Other}
-use Rattle.deal_model.specs.declared.states.CertificateState.{CertificateState}
 use Rattle.deal_model.specs.Views.{History}
 use Rattle.deal_model.specs.Rules.{Allowed, StampHolds, GrantComes, GrantHolds, HoldHolds, TurnedHolds, PolledHolds, IsOpenPast, SettledHolds, RevokeHolds}
 

@@ -1,10 +1,9 @@
 -- What a ruling says of what is left of a message.
-use Rattle.std.proofs.Common.{◌≡◌, ℕ, Bool, true, false, List, Option, Some, None, refl, sym, ap}
+use Rattle.std.proofs.Common.{◌≡◌, ℕ, Bool, true, Option, Some, None, ap}
 use Rattle.std.specs.Prelude.{is_some, option_map}
-use Rattle.cmp_ports.specs.declared.fail_info.FailInfo.{FailInfo}
+use Rattle.cmp_values.specs.declared.fail_info.FailInfo.{FailInfo}
 use Rattle.deal_changes.specs.declared.change.Change.{Change}
 use Rattle.deal_table.specs.Table.{To, Decision, Makes, Repeats, Refuses, Asks}
-use Rattle.deal_rulings.specs.declared.ruling.Ruling.{Ruling}
 use Rattle.deal_rulings.specs.declared.ruling.Ruling.TheVariants as rulings
 use Rattle.deal_rulings.specs.Rulings.{ruling_of}
 

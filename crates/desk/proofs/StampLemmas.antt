@@ -1,5 +1,5 @@
 -- What the table makes has a stamp, and what it repeats has a receipt.
-use Rattle.std.proofs.Common.{◌≡◌, ◌∙◌, ℕ, zero, suc, ◌+◌, ◌<◌, ◌≤◌, Bool, true, false, cond, List, [], ◌∷◌, ◌++◌, length, take, Option, Some, None, refl, sym, ap, subst, arith}
+use Rattle.std.proofs.Common.{◌≡◌, ℕ, zero, suc, ◌+◌, ◌<◌, ◌≤◌, Bool, true, false, cond, List, [], ◌∷◌, ◌++◌, length, take, Option, Some, None, refl, sym, ap, subst, arith}
 use Rattle.std.specs.Prelude.{is_some, unwrap_or, option_map, option_and_then, slice_get, nat_lt, ◌==◌}
 use Rattle.std.specs.List.{position_from}
 use Rattle.std.proofs.lemmas.Option.{none-some, same_Some, slice_get_within}
@@ -13,9 +13,9 @@ use Rattle.deal_model.specs.declared.states.Owner.{Owner}
 use Rattle.deal_model.specs.declared.states.Standing.{Standing}
 use Rattle.deal_model.specs.declared.states.Standing.TheVariants.{Unknown, OtherKind, Barred, Good}
 use Rattle.deal_model.specs.Views.{History, has_digest, stamp_has, is_told}
-use Rattle.deal_table.specs.History.{Receipted, Deal, name_of, skew_of, place_of, place_of_digest, event_time, receipt_of, receipt_in, receipt_at, grant_receipt}
-use Rattle.deal_table.specs.Message.{Enrolment, Confirmation, Polling, Withdrawal, Body, Enrols, Confirms, Polls, Withdraws, Nests, OtherBody, is_nested, Facts, Letter}
-use Rattle.deal_table.specs.Table.{Row, To, Decision, Makes, Repeats, Refuses, Asks, Event, Sent, unless, bare, guarded, known, protection_rows, check_rows, time_rows, standing_now, trusted, form_rows, header_rows, served_rows, wrap_rows, room_rows, made, stamp_by, grant_by, is_on_hold, enrolled, enrols, new_rows, wish_rows, key_rows, is_possessed, proof_rows, old_rows, party_rows, confirm_rows, deal_certificate, poll_rows, entry_rows, reason_rows, revoke_rows, status_rows, deal_now, state_now, tid_of, compared, compared_with, settles, confirms, polled, poll_made, polls, withdraws, about, repeated, passed, read, opened, decision}
+use Rattle.deal_table.specs.History.{Receipted, Deal, name_of, skew_of, place_of_digest, event_time, receipt_of, receipt_in, receipt_at, grant_receipt}
+use Rattle.deal_table.specs.Message.{Enrolment, Confirmation, Body, Enrols, Confirms, Polls, Withdraws, Nests, OtherBody, is_nested, Facts, Letter}
+use Rattle.deal_table.specs.Table.{Row, To, Decision, Makes, Repeats, Refuses, Asks, Event, Sent, unless, bare, guarded, known, protection_rows, check_rows, time_rows, standing_now, trusted, form_rows, header_rows, served_rows, wrap_rows, room_rows, made, stamp_by, grant_by, is_on_hold, enrolled, enrols, new_rows, wish_rows, key_rows, is_possessed, proof_rows, old_rows, party_rows, confirm_rows, deal_certificate, poll_rows, entry_rows, reason_rows, revoke_rows, status_rows, deal_now, state_now, tid_of, compared, compared_with, settles, polled, poll_made, about, repeated, passed, read, opened, decision}
 
 -- ---- a receipt for each place that a digest has
 

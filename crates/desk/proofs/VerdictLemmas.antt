@@ -1,6 +1,6 @@
 -- How what is planned becomes a verdict, and what the verdict says of the message.
-use Rattle.std.proofs.Common.{◌≡◌, ◌⊎◌, inl, inr, ℕ, suc, ◌+◌, ◌≤◌, Bool, true, List, [], ◌∷◌, ◌++◌, length, Option, Some, None, refl, sym, ◌∙◌, ap, subst, append_assoc, append-nil, length-append, arith}
-use Rattle.std.specs.Prelude.{is_some, option_map, IsSome, IfSome}
+use Rattle.std.proofs.Common.{◌≡◌, inl, inr, ℕ, suc, ◌≤◌, Bool, true, List, [], ◌∷◌, ◌++◌, length, Option, Some, None, refl, sym, ◌∙◌, ap, subst, append_assoc, append-nil, length-append, arith}
+use Rattle.std.specs.Prelude.{is_some, option_map, IsSome}
 use Rattle.std.proofs.Math.Logic.{∥∥₁_elim}
 use Rattle.std.proofs.Props.{props}
 use Rattle.std.proofs.lemmas.Option.{none-some, same_Some}
@@ -10,8 +10,7 @@ use Rattle.deal_changes.specs.Times.{stamp_of, time_of_change}
 use Rattle.deal_model.specs.declared.asking.Checked.{Checked}
 use Rattle.deal_model.specs.Views.{History}
 use Rattle.deal_model.specs.Rules.{Allowed, Legal}
-use Rattle.cmp_ports.specs.declared.fail_info.FailInfo.{FailInfo}
-use Rattle.deal_table.specs.History.{Receipted, Begins, name_of, event_time, receipt_of, receipt_in, receipt_at}
+use Rattle.deal_table.specs.History.{Receipted, Begins, name_of, event_time, receipt_of, receipt_at}
 use Rattle.deal_table.specs.Message.{Letter, blind}
 use Rattle.deal_table.specs.Table.{To, Makes, Repeats, Refuses, Asks, decision}
 use Rattle.deal_table.specs.Carry.{rest, left, IsStale, FitsChecked, Carries, untold, HashIsTold, carried_to}
@@ -23,8 +22,8 @@ use Rattle.desk.specs.declared.deciding.Plan.TheVariants as plans
 use Rattle.desk.specs.declared.verdict.Verdict.{Verdict}
 use Rattle.desk.specs.declared.verdict.Verdict.TheVariants.{Done, Again, Refused, Stale, DiskFault, NoMemory}
 use Rattle.desk.specs.Calls.{IsSame}
-use Rattle.desk.specs.Verdicts.{IsMoment, IsReceipt, Decides, IsInTime, LeftMakes, LeftRefuses, IsLeft}
-use Rattle.desk.specs.Plans.{WillHave, IsPlan, IsReady, IsPlanned, IsMade, IsTold, IsFollowed}
+use Rattle.desk.specs.Verdicts.{IsMoment, IsReceipt, Decides, IsInTime, LeftMakes, IsLeft}
+use Rattle.desk.specs.Plans.{WillHave, IsPlan, IsReady, IsPlanned, IsMade, IsFollowed}
 use Rattle.desk.proofs.FitLemmas.{event_bound}
 use Rattle.desk.proofs.PropLemmas.{allowed_prop}
 use Rattle.desk.proofs.StampLemmas.{Stamped, HasReceipt, decision_stamped}

@@ -7,6 +7,7 @@ use Rattle.journal_core.specs.Log as log
 use Rattle.deal_changes.specs.declared.change.Change.{Change}
 use Rattle.deal_changes.specs.Spelling.{spelling}
 use Rattle.deal_model.specs.Views.{History}
+use Rattle.deal_model.specs.Rules.{Allowed}
 
 -- the seven octets CMPLOG1
 abbrev pub magic : List ℕ
@@ -30,6 +31,10 @@ IsDoubt doubt c = doubt ≡ Some c
 -- the change is in doubt, or it is the call's own
 abbrev pub DoubtOr : Option Change → (Change → Type 0) → Change → Type 0
 DoubtOr doubt Own c = IsDoubt doubt c ⊎ Own c
+
+-- the change is such a one, and may come next
+abbrev pub MayCome : (Change → Type 0) → History → Change → Type 0
+MayCome Own h c = Own c × Allowed h c
 
 -- each image recovers to the history, or to it with the change in doubt
 abbrev pub Images : (List ℕ → Type 0) → History → Option Change → Type 0

@@ -1,3 +1,4 @@
+pub mod History
 pub mod Images
 pub mod Due
 pub mod Calls

@@ -4,7 +4,7 @@ use Rattle.deal_changes.specs.declared.change.Change.{Change}
 use Rattle.deal_changes.specs.Times.{time_of_change}
 use Rattle.deal_model.specs.declared.asking.Checked.{Checked}
 use Rattle.deal_model.specs.Views.{History}
-use Rattle.cmp_ports.specs.declared.fail_info.FailInfo.{FailInfo}
+use Rattle.cmp_values.specs.declared.fail_info.FailInfo.{FailInfo}
 use Rattle.deal_table.specs.History.{Receipted, Begins, event_time, receipt_at}
 use Rattle.deal_table.specs.Message.{Letter, blind}
 use Rattle.deal_table.specs.Table.{To, Makes, Repeats, Refuses, Asks, decision}

@@ -1,9 +1,10 @@
 //! Adds one change to the history: first on the disk, then in memory.
-ghost use Rattle.std.specs.Prelude.{◌≡◌, ◌≢◌, ◌<◌, ◌≤◌, ◌^◌, ◌++◌, ◌∷◌, [], length, MatchOption, IfOk, OnOk, OnErr, IsSome, Some, None, vec_len, vec_capacity};
+ghost use Rattle.std.specs.Prelude.{◌≡◌, ◌≢◌, ◌<◌, ◌≤◌, ◌^◌, ◌++◌, ◌∷◌, [], length, MatchOption, IfOk, OnOk, OnErr, IfSome, IsSome, Some, None, vec_len, vec_capacity};
 ghost use Rattle.cmp_ports.specs.Disk.{LeavesOnly};
 ghost use Rattle.cmp_ports.specs.Faults.{Rose, HasCause};
 ghost use Rattle.deal_changes.specs.Spelling.{spelling, IsWriteable};
-ghost use Rattle.desk.specs.Images.{RecoversWith, IsDoubt, DoubtOr};
+ghost use Rattle.desk.specs.History.{history_of};
+ghost use Rattle.desk.specs.Images.{RecoversWith, IsDoubt, DoubtOr, MayCome};
 ghost use Rattle.desk.specs.Calls.{Fits, IsAdded};
 
 use crate::answers::Added;
@@ -36,9 +37,10 @@ impl<D: Disk> Desk<D> {
         ensures same { self.new.history ≡ self.old.history }
         ensures clear { OnOk result (self.new.doubt ≡ None) }
         ensures still { OnErr result (IsSome self.old.doubt × (self.new.doubt ≡ self.old.doubt)) }
-        ensures moments { LeavesOnly D.moment D.left_since self.old.disk self.new.disk (RecoversWith self.old.history.items (IsDoubt self.old.doubt)) }
+        ensures moments { LeavesOnly D.moment D.left_since self.old.disk self.new.disk (RecoversWith (history_of self.old) (IsDoubt self.old.doubt)) }
         ensures cause { HasCause (D.faults self.old.disk) (D.faults self.new.disk) result }
         ensures loan { D.loan self.new.disk ≡ D.loan self.old.disk }
+        ensures mark { self.new.mark ≡ self.old.mark }
     {
         if self.doubt.is_none() {
             return Ok(());
@@ -54,16 +56,19 @@ impl<D: Disk> Desk<D> {
 
     /// Appends the record of a change where nothing is in doubt. Takes no memory.
     fn append(&mut self, c: Change, entry: &Record) -> Added
-        requires fits { Fits self.old.history.items c }
+        requires fits { Fits (history_of self.old) c }
         requires clear { self.old.doubt ≡ None }
         requires spelled { entry.now ≡ spelling c }
         requires room { vec_len self.old.history < vec_capacity self.old.history }
-        ensures ends { IsAdded self.old.history.items None c result self.new.history.items self.new.doubt }
+        ensures ends { IsAdded (history_of self.old) None c result (history_of self.new) self.new.doubt }
         ensures some { result ≢ Added.NoMemory }
-        ensures moments { LeavesOnly D.moment D.left_since self.old.disk self.new.disk (RecoversWith self.old.history.items (λ x. x ≡ c)) }
+        ensures doubt { IfSome self.new.doubt (MayCome (λ x. x ≡ c) (history_of self.old)) }
+        ensures moments { LeavesOnly D.moment D.left_since self.old.disk self.new.disk (RecoversWith (history_of self.old) (MayCome (λ x. x ≡ c) (history_of self.old))) }
         ensures fault { result ≡ Added.DiskFault → Rose (D.faults self.old.disk) (D.faults self.new.disk) }
         ensures later { D.faults self.old.disk ≤ D.faults self.new.disk }
+        ensures exact { result ≢ Added.DiskFault → D.faults self.new.disk ≡ D.faults self.old.disk }
         ensures loan { D.loan self.new.disk ≡ D.loan self.old.disk }
+        ensures mark { self.new.mark ≡ self.old.mark }
     {
         match self.journal.append(&mut self.disk, entry) {
             Ok(()) => match self.history.push(c) {
@@ -80,12 +85,15 @@ impl<D: Disk> Desk<D> {
 
     /// Adds a change that may come next. What is in doubt is settled first, and all memory is taken before.
     pub(crate) fn add(&mut self, c: Change) -> Added
-        requires { Fits self.old.history.items c }
-        ensures ends { IsAdded self.old.history.items self.old.doubt c result self.new.history.items self.new.doubt }
-        ensures moments { LeavesOnly D.moment D.left_since self.old.disk self.new.disk (RecoversWith self.old.history.items (DoubtOr self.old.doubt (λ x. x ≡ c))) }
+        requires { Fits (history_of self.old) c }
+        ensures ends { IsAdded (history_of self.old) self.old.doubt c result (history_of self.new) self.new.doubt }
+        ensures doubt { IfSome self.new.doubt (DoubtOr self.old.doubt (MayCome (λ x. x ≡ c) (history_of self.old))) }
+        ensures moments { LeavesOnly D.moment D.left_since self.old.disk self.new.disk (RecoversWith (history_of self.old) (DoubtOr self.old.doubt (MayCome (λ x. x ≡ c) (history_of self.old)))) }
         ensures fault { result ≡ Added.DiskFault → Rose (D.faults self.old.disk) (D.faults self.new.disk) }
         ensures later { D.faults self.old.disk ≤ D.faults self.new.disk }
+        ensures exact { result ≢ Added.DiskFault → D.faults self.new.disk ≡ D.faults self.old.disk }
         ensures loan { D.loan self.new.disk ≡ D.loan self.old.disk }
+        ensures mark { self.new.mark ≡ self.old.mark }
     {
         let alloc = *self.history.allocator();
         let record = match record_of(alloc, &c) {
@@ -104,11 +112,13 @@ impl<D: Disk> Desk<D> {
 
     /// Adds a change that may come next, and keeps a mark where the disk failed.
     pub(crate) fn add_marked(&mut self, c: Change) -> Added
-        requires { Fits self.old.history.items c }
-        ensures ends { IsAdded self.old.history.items self.old.doubt c result self.new.history.items self.new.doubt }
-        ensures moments { LeavesOnly D.moment D.left_since self.old.disk self.new.disk (RecoversWith self.old.history.items (DoubtOr self.old.doubt (λ x. x ≡ c))) }
+        requires { Fits (history_of self.old) c }
+        ensures ends { IsAdded (history_of self.old) self.old.doubt c result (history_of self.new) self.new.doubt }
+        ensures doubt { IfSome self.new.doubt (DoubtOr self.old.doubt (MayCome (λ x. x ≡ c) (history_of self.old))) }
+        ensures moments { LeavesOnly D.moment D.left_since self.old.disk self.new.disk (RecoversWith (history_of self.old) (DoubtOr self.old.doubt (MayCome (λ x. x ≡ c) (history_of self.old)))) }
         ensures fault { result ≡ Added.DiskFault → Rose (D.faults self.old.disk) (D.faults self.new.disk) }
         ensures later { D.faults self.old.disk ≤ D.faults self.new.disk }
+        ensures exact { result ≢ Added.DiskFault → D.faults self.new.disk ≡ D.faults self.old.disk }
         ensures loan { D.loan self.new.disk ≡ D.loan self.old.disk }
         ensures mark { MatchOption self.new.mark (result ≢ Added.DiskFault) (λ m. (result ≡ Added.DiskFault) × (m.before.value ≡ self.old.disk) × (m.after.value ≡ self.new.disk)) }
     {

@@ -1,5 +1,5 @@
-//! A desk is known by its history.
-ghost use Rattle.std.specs.Prelude.{◌≡◌, length};
+//! A desk is known by its history, and waits for its next turn without a mark.
+ghost use Rattle.std.specs.Prelude.{◌≡◌, None, length};
 
 use crate::desk::Desk;
 use cmp_ports::Disk;
@@ -10,6 +10,8 @@ impl<D: Disk + Drop> Chronicle for Desk<D> {
     type Entry = Change;
 
     ghost history = { λ d. d.history.items };
+
+    ghost kept = { λ d. d.mark ≡ None };
 
     fn length(&self) -> u64 {
         self.history.len() as u64

@@ -1,5 +1,5 @@
 //! Whoever keeps a history for those that answer messages.
-ghost use Rattle.std.specs.Prelude.{◌≡◌, ◌≤◌, ℕ, List, ◌++◌, Option, None, IfSome, IfOk};
+ghost use Rattle.std.specs.Prelude.{◌≡◌, ◌≢◌, ◌≤◌, ℕ, List, ◌++◌, Option, None, IfSome, IfOk};
 ghost use Rattle.atomic_table.specs.Seated.{TableId};
 ghost use Rattle.cmp_ports.specs.Disk.{LeavesOnly, Every};
 ghost use Rattle.cmp_ports.specs.Faults.{Rose};
@@ -9,10 +9,10 @@ ghost use Rattle.deal_table.specs.History.{Begins, IsFounded, look_of, grant_rec
 ghost use Rattle.deal_table.specs.Message.{Letter};
 ghost use Rattle.deal_table.specs.Carry.{FitsChecked, Carries, untold, HashIsTold};
 ghost use Rattle.desk.specs.Due.{event_time, IsLapse};
-ghost use Rattle.desk.specs.Calls.{IsOrder};
-ghost use Rattle.desk.specs.Images.{RecoversWith, IsDoubt, DoubtOr};
-ghost use Rattle.desk.specs.Verdicts.{Decides, IsInTime, LeftMakes};
-ghost use Rattle.desk.specs.Clerks.{decided_place, lapsed_place, ordered_place, IsDecidedAlone, IsLapsedSince, IsOrderedSince};
+ghost use Rattle.desk.specs.Calls.{IsLapsed, IsOrder, IsOrdered};
+ghost use Rattle.desk.specs.Images.{RecoversWith, IsDoubt, DoubtOr, MayCome};
+ghost use Rattle.desk.specs.Verdicts.{Decides, IsInTime, LeftMakes, IsLeft};
+ghost use Rattle.desk.specs.Clerks.{decided_place, lapsed_place, ordered_place, IsLapsedSince, IsOrderedSince};
 
 use crate::answers::{Lapsed, Ordered};
 use crate::receipt::Receipt;
@@ -102,14 +102,17 @@ pub trait Clerk {
         ensures mine { mine self.new ≡ mine self.old ++ decided_place result }
         ensures fault { result ≡ Verdict.DiskFault → Rose (faults self.old) (faults self.new) }
         ensures later { faults self.old ≤ faults self.new }
+        ensures exact { result ≢ Verdict.DiskFault → faults self.new ≡ faults self.old }
+        ensures memory { result ≡ Verdict.NoMemory → doubt self.new ≡ doubt self.old }
         ensures loan { loan self.new ≡ loan self.old }
         ensures disk_loan { disk_loan self.new ≡ disk_loan self.old }
         ensures seat { (table self.new ≡ table self.old) × (share self.new ≡ share self.old) }
-        ensures alone { table self.old ≡ None → IsDecidedAlone (seen self.old) (seen self.new) result }
+        // A clerk without a seat tells the change in doubt too.
+        ensures alone { table self.old ≡ None → IsLeft checked.now now words.now (seen self.old) (doubt self.old) result (seen self.new) (doubt self.new) }
         // A stop at any moment of the call leaves the history, with the change in doubt behind it, with the message's, or alone;
         // and only one of these may be in doubt afterwards.
-        ensures doubt { IfSome (doubt self.new) (DoubtOr (doubt self.old) (LeftMakes (seen self.old) checked.now now words.now)) }
-        ensures moments { LeavesOnly moment left_since self.old self.new (RecoversWith (seen self.old) (DoubtOr (doubt self.old) (LeftMakes (seen self.old) checked.now now words.now))) };
+        ensures doubt { IfSome (doubt self.new) (DoubtOr (doubt self.old) (MayCome (LeftMakes (seen self.old) checked.now now words.now) (seen self.old))) }
+        ensures moments { LeavesOnly moment left_since self.old self.new (RecoversWith (seen self.old) (DoubtOr (doubt self.old) (MayCome (LeftMakes (seen self.old) checked.now now words.now) (seen self.old)))) };
 
     /// Takes back the certificate with the least deadline that has come.
     fn lapse(&mut self, now: u64) -> Lapsed
@@ -120,11 +123,14 @@ pub trait Clerk {
         ensures mine { mine self.new ≡ mine self.old ++ lapsed_place result }
         ensures fault { result ≡ Lapsed.DiskFault → Rose (faults self.old) (faults self.new) }
         ensures later { faults self.old ≤ faults self.new }
+        ensures exact { result ≢ Lapsed.DiskFault → faults self.new ≡ faults self.old }
+        ensures memory { result ≡ Lapsed.NoMemory → doubt self.new ≡ doubt self.old }
         ensures loan { loan self.new ≡ loan self.old }
         ensures disk_loan { disk_loan self.new ≡ disk_loan self.old }
         ensures seat { (table self.new ≡ table self.old) × (share self.new ≡ share self.old) }
-        ensures doubt { IfSome (doubt self.new) (DoubtOr (doubt self.old) (IsLapse (seen self.old) (event_time (seen self.old) now))) }
-        ensures moments { LeavesOnly moment left_since self.old self.new (RecoversWith (seen self.old) (DoubtOr (doubt self.old) (IsLapse (seen self.old) (event_time (seen self.old) now)))) };
+        ensures alone { table self.old ≡ None → IsLapsed (seen self.old) (doubt self.old) (event_time (seen self.old) now) result (seen self.new) (doubt self.new) }
+        ensures doubt { IfSome (doubt self.new) (DoubtOr (doubt self.old) (MayCome (IsLapse (seen self.old) (event_time (seen self.old) now)) (seen self.old))) }
+        ensures moments { LeavesOnly moment left_since self.old self.new (RecoversWith (seen self.old) (DoubtOr (doubt self.old) (MayCome (IsLapse (seen self.old) (event_time (seen self.old) now)) (seen self.old)))) };
 
     /// Releases or denies a held request.
     fn order(&mut self, order: &Order, now: u64) -> Ordered
@@ -135,11 +141,14 @@ pub trait Clerk {
         ensures mine { mine self.new ≡ mine self.old ++ ordered_place result }
         ensures fault { result ≡ Ordered.DiskFault → Rose (faults self.old) (faults self.new) }
         ensures later { faults self.old ≤ faults self.new }
+        ensures exact { result ≢ Ordered.DiskFault → faults self.new ≡ faults self.old }
+        ensures memory { result ≡ Ordered.NoMemory → doubt self.new ≡ doubt self.old }
         ensures loan { loan self.new ≡ loan self.old }
         ensures disk_loan { disk_loan self.new ≡ disk_loan self.old }
         ensures seat { (table self.new ≡ table self.old) × (share self.new ≡ share self.old) }
-        ensures doubt { IfSome (doubt self.new) (DoubtOr (doubt self.old) (IsOrder order.now (event_time (seen self.old) now))) }
-        ensures moments { LeavesOnly moment left_since self.old self.new (RecoversWith (seen self.old) (DoubtOr (doubt self.old) (IsOrder order.now (event_time (seen self.old) now)))) };
+        ensures alone { table self.old ≡ None → IsOrdered (seen self.old) (doubt self.old) order.now (event_time (seen self.old) now) result (seen self.new) (doubt self.new) }
+        ensures doubt { IfSome (doubt self.new) (DoubtOr (doubt self.old) (MayCome (IsOrder order.now (event_time (seen self.old) now)) (seen self.old))) }
+        ensures moments { LeavesOnly moment left_since self.old self.new (RecoversWith (seen self.old) (DoubtOr (doubt self.old) (MayCome (IsOrder order.now (event_time (seen self.old) now)) (seen self.old)))) };
 
     /// A stop now leaves the history, with the change in doubt behind it or alone.
     fn stands_for_its_disk(&self)

@@ -1,5 +1,5 @@
 //! Decides messages that were checked.
-ghost use Rattle.std.specs.Prelude.{◌≡◌, ◌≢◌, ◌≤◌, List, length, true, Some, is_some, MatchOption, IfOk};
+ghost use Rattle.std.specs.Prelude.{◌≡◌, ◌≢◌, ◌≤◌, List, length, true, Some, is_some, IfSome, MatchOption, IfOk};
 ghost use Rattle.cmp_ports.specs.Disk.{LeavesOnly};
 ghost use Rattle.cmp_ports.specs.Faults.{Rose};
 ghost use Rattle.deal_changes.specs.declared.change.Change.{Change};
@@ -9,7 +9,8 @@ ghost use Rattle.deal_model.specs.Views.{AreTimely};
 ghost use Rattle.deal_table.specs.History.{Begins, receipt_at};
 ghost use Rattle.deal_table.specs.Message.{Letter};
 ghost use Rattle.deal_table.specs.Carry.{FitsChecked, Carries, untold, HashIsTold};
-ghost use Rattle.desk.specs.Images.{RecoversWith, IsDoubt, DoubtOr};
+ghost use Rattle.desk.specs.History.{history_of};
+ghost use Rattle.desk.specs.Images.{RecoversWith, IsDoubt, DoubtOr, MayCome};
 ghost use Rattle.desk.specs.Verdicts.{Decides, IsInTime, LeftMakes, IsLeft};
 ghost use Rattle.desk.specs.Plans.{WillHave, IsPlan, IsReady, IsPlanned, IsMade, IsTold, IsFollowed};
 
@@ -115,11 +116,13 @@ fn plan_of(
 impl<D: Disk> Desk<D> {
     /// Makes the change of a message, whose receipt will be this one.
     fn make(&mut self, change: Change, receipt: Receipt) -> Verdict
-        requires { Allowed self.old.history.items change }
-        ensures ends { IsMade self.old.history.items self.old.doubt change receipt result self.new.history.items self.new.doubt }
-        ensures moments { LeavesOnly D.moment D.left_since self.old.disk self.new.disk (RecoversWith self.old.history.items (DoubtOr self.old.doubt (λ c. c ≡ change))) }
+        requires { Allowed (history_of self.old) change }
+        ensures ends { IsMade (history_of self.old) self.old.doubt change receipt result (history_of self.new) self.new.doubt }
+        ensures doubt { IfSome self.new.doubt (DoubtOr self.old.doubt (MayCome (λ c. c ≡ change) (history_of self.old))) }
+        ensures moments { LeavesOnly D.moment D.left_since self.old.disk self.new.disk (RecoversWith (history_of self.old) (DoubtOr self.old.doubt (MayCome (λ c. c ≡ change) (history_of self.old)))) }
         ensures fault { result ≡ Verdict.DiskFault → Rose (D.faults self.old.disk) (D.faults self.new.disk) }
         ensures later { D.faults self.old.disk ≤ D.faults self.new.disk }
+        ensures exact { result ≢ Verdict.DiskFault → D.faults self.new.disk ≡ D.faults self.old.disk }
         ensures loan { D.loan self.new.disk ≡ D.loan self.old.disk }
         ensures mark { MatchOption self.new.mark (result ≢ Verdict.DiskFault) (λ m. (result ≡ Verdict.DiskFault) × (m.before.value ≡ self.old.disk) × (m.after.value ≡ self.new.disk)) }
     {
@@ -134,10 +137,11 @@ impl<D: Disk> Desk<D> {
     /// Tells a verdict by which nothing is made, once nothing is in doubt.
     fn tell(&mut self, told: Verdict) -> Verdict
         requires { told ≢ Verdict.DiskFault }
-        ensures ends { IsTold self.old.history.items self.old.doubt told result self.new.history.items self.new.doubt }
-        ensures moments { LeavesOnly D.moment D.left_since self.old.disk self.new.disk (RecoversWith self.old.history.items (IsDoubt self.old.doubt)) }
+        ensures ends { IsTold (history_of self.old) self.old.doubt told result (history_of self.new) self.new.doubt }
+        ensures moments { LeavesOnly D.moment D.left_since self.old.disk self.new.disk (RecoversWith (history_of self.old) (IsDoubt self.old.doubt)) }
         ensures fault { result ≡ Verdict.DiskFault → Rose (D.faults self.old.disk) (D.faults self.new.disk) }
         ensures later { D.faults self.old.disk ≤ D.faults self.new.disk }
+        ensures exact { result ≢ Verdict.DiskFault → D.faults self.new.disk ≡ D.faults self.old.disk }
         ensures loan { D.loan self.new.disk ≡ D.loan self.old.disk }
         ensures mark { MatchOption self.new.mark (result ≢ Verdict.DiskFault) (λ m. (result ≡ Verdict.DiskFault) × (m.before.value ≡ self.old.disk) × (m.after.value ≡ self.new.disk)) }
     {
@@ -156,11 +160,13 @@ impl<D: Disk> Desk<D> {
 
     /// Does what is to be done.
     fn follow(&mut self, plan: Plan, now: u64) -> Verdict
-        requires { IsReady self.old.history.items plan }
-        ensures ends { IsFollowed self.old.history.items self.old.doubt now plan result self.new.history.items self.new.doubt }
-        ensures moments { LeavesOnly D.moment D.left_since self.old.disk self.new.disk (RecoversWith self.old.history.items (DoubtOr self.old.doubt (IsPlanned plan))) }
+        requires { IsReady (history_of self.old) plan }
+        ensures ends { IsFollowed (history_of self.old) self.old.doubt now plan result (history_of self.new) self.new.doubt }
+        ensures doubt { IfSome self.new.doubt (DoubtOr self.old.doubt (MayCome (IsPlanned plan) (history_of self.old))) }
+        ensures moments { LeavesOnly D.moment D.left_since self.old.disk self.new.disk (RecoversWith (history_of self.old) (DoubtOr self.old.doubt (MayCome (IsPlanned plan) (history_of self.old)))) }
         ensures fault { result ≡ Verdict.DiskFault → Rose (D.faults self.old.disk) (D.faults self.new.disk) }
         ensures later { D.faults self.old.disk ≤ D.faults self.new.disk }
+        ensures exact { result ≢ Verdict.DiskFault → D.faults self.new.disk ≡ D.faults self.old.disk }
         ensures loan { D.loan self.new.disk ≡ D.loan self.old.disk }
         ensures mark { MatchOption self.new.mark (result ≢ Verdict.DiskFault) (λ m. (result ≡ Verdict.DiskFault) × (m.before.value ≡ self.old.disk) × (m.after.value ≡ self.new.disk)) }
     {
@@ -195,12 +201,15 @@ impl<D: Disk> Desk<D> {
         requires clock { now ≤ 250000000000 }
         requires fits { FitsChecked checked.now }
         // Each message that the Checked carries, by a history that its maker has seen, is decided so.
-        ensures verdict { (l : Letter) (looked seen : List Change) → Begins looked seen → Begins seen self.old.history.items → Carries l (untold checked.now) looked → HashIsTold l checked.now seen → Decides l checked.now self.old.history.items self.new.history.items now words.now result }
-        ensures ends { IsLeft checked.now now words.now self.old.history.items self.old.doubt result self.new.history.items self.new.doubt }
+        ensures verdict { (l : Letter) (looked seen : List Change) → Begins looked seen → Begins seen (history_of self.old) → Carries l (untold checked.now) looked → HashIsTold l checked.now seen → Decides l checked.now (history_of self.old) (history_of self.new) now words.now result }
+        ensures ends { IsLeft checked.now now words.now (history_of self.old) self.old.doubt result (history_of self.new) self.new.doubt }
+        // Only the change that was in doubt, or the call's own that may come next, is in doubt afterwards.
+        ensures doubt { IfSome self.new.doubt (DoubtOr self.old.doubt (MayCome (LeftMakes (history_of self.old) checked.now now words.now) (history_of self.old))) }
         // A stop at any moment of the call leaves the history, with the change in doubt behind it, with the message's, or alone.
-        ensures moments { LeavesOnly D.moment D.left_since self.old.disk self.new.disk (RecoversWith self.old.history.items (DoubtOr self.old.doubt (LeftMakes self.old.history.items checked.now now words.now))) }
+        ensures moments { LeavesOnly D.moment D.left_since self.old.disk self.new.disk (RecoversWith (history_of self.old) (DoubtOr self.old.doubt (MayCome (LeftMakes (history_of self.old) checked.now now words.now) (history_of self.old)))) }
         ensures fault { result ≡ Verdict.DiskFault → Rose (D.faults self.old.disk) (D.faults self.new.disk) }
         ensures later { D.faults self.old.disk ≤ D.faults self.new.disk }
+        ensures exact { result ≢ Verdict.DiskFault → D.faults self.new.disk ≡ D.faults self.old.disk }
         ensures loan { D.loan self.new.disk ≡ D.loan self.old.disk }
         ensures mark { MatchOption self.new.mark (result ≢ Verdict.DiskFault) (λ m. (result ≡ Verdict.DiskFault) × (m.before.value ≡ self.old.disk) × (m.after.value ≡ self.new.disk)) }
         ensures time { IsInTime result }

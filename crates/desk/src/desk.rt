@@ -22,9 +22,11 @@ pub struct Desk<D: Disk> {
 }
 
 impl<D: Disk> Desk<D> {
+    ghost use Rattle.desk.specs.History.{history_of};
+
     /// The number of changes.
     pub fn length(&self) -> u64
-        ensures { result ≡ length self.now.history.items }
+        ensures { result ≡ length (history_of self.now) }
     {
         self.history.len() as u64
     }
@@ -32,8 +34,8 @@ impl<D: Disk> Desk<D> {
     /// The change at a place, from 1 on.
     pub fn change_at(&self, place: u64) -> &Change
         requires low { 1 ≤ place }
-        requires high { place ≤ length self.now.history.items }
-        ensures { slice_get self.now.history.items (place - 1) ≡ Some result.now }
+        requires high { place ≤ length (history_of self.now) }
+        ensures { slice_get (history_of self.now) (place - 1) ≡ Some result.now }
     {
         &self.history[place as usize - 1]
     }
@@ -41,8 +43,8 @@ impl<D: Disk> Desk<D> {
     /// What a desk is: each image of its disk recovers to its history, or to that with the change in doubt behind it. The
     /// history is legal, and the change in doubt may come next.
     pub fn stands_for_its_disk(&self)
-        ensures images { Images (D.images self.now.disk) self.now.history.items self.now.doubt }
-        ensures lawful { ∥ Legal self.now.history.items × IfSome self.now.doubt (Allowed self.now.history.items) ∥₁ }
+        ensures images { Images (D.images self.now.disk) (history_of self.now) self.now.doubt }
+        ensures lawful { ∥ Legal (history_of self.now) × IfSome self.now.doubt (Allowed (history_of self.now)) ∥₁ }
     {}
 
     /// The mark of the last decide, lapse or order, where the disk failed under it and its mark wasn't taken yet.

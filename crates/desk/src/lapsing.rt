@@ -1,9 +1,10 @@
 //! Takes back the next certificate that wasn't confirmed in time.
-ghost use Rattle.std.specs.Prelude.{◌≡◌, ◌≢◌, ◌≤◌, length, MatchOption};
+ghost use Rattle.std.specs.Prelude.{◌≡◌, ◌≢◌, ◌≤◌, length, IfSome, MatchOption};
 ghost use Rattle.cmp_ports.specs.Disk.{LeavesOnly};
 ghost use Rattle.cmp_ports.specs.Faults.{Rose};
 ghost use Rattle.deal_model.specs.Views.{AreTimely, is_empty, time_of};
-ghost use Rattle.desk.specs.Images.{RecoversWith, DoubtOr};
+ghost use Rattle.desk.specs.History.{history_of};
+ghost use Rattle.desk.specs.Images.{RecoversWith, DoubtOr, MayCome};
 ghost use Rattle.desk.specs.Due.{event_time, AllAfter, IsDue, IsLapse};
 ghost use Rattle.desk.specs.Calls.{IsLapsed, lapse_end};
 
@@ -63,7 +64,7 @@ fn lapse_end(added: Added, place: u64, tid: Short) -> Lapsed
 impl<D: Disk> Desk<D> {
     /// The changes, none of which is later than any clock may say, and of which there are so many at most.
     pub(crate) fn changes(&self) -> &[Change]
-        ensures value { result.now ≡ self.now.history.items }
+        ensures value { result.now ≡ history_of self.now }
         ensures timely { AreTimely result.now }
         ensures bounded { length result.now ≤ 262144 }
     {
@@ -74,11 +75,14 @@ impl<D: Disk> Desk<D> {
     /// time is a clock's reading in seconds since 1970.
     pub fn lapse(&mut self, now: u64) -> Lapsed
         requires { now ≤ 250000000000 }
-        ensures ends { IsLapsed self.old.history.items self.old.doubt (event_time self.old.history.items now) result self.new.history.items self.new.doubt }
+        ensures ends { IsLapsed (history_of self.old) self.old.doubt (event_time (history_of self.old) now) result (history_of self.new) self.new.doubt }
+        // Only the change that was in doubt, or the call's own that may come next, is in doubt afterwards.
+        ensures doubt { IfSome self.new.doubt (DoubtOr self.old.doubt (MayCome (IsLapse (history_of self.old) (event_time (history_of self.old) now)) (history_of self.old))) }
         // A stop at any moment of the call leaves the history, with the change in doubt behind it, with the lapse, or alone.
-        ensures moments { LeavesOnly D.moment D.left_since self.old.disk self.new.disk (RecoversWith self.old.history.items (DoubtOr self.old.doubt (IsLapse self.old.history.items (event_time self.old.history.items now)))) }
+        ensures moments { LeavesOnly D.moment D.left_since self.old.disk self.new.disk (RecoversWith (history_of self.old) (DoubtOr self.old.doubt (MayCome (IsLapse (history_of self.old) (event_time (history_of self.old) now)) (history_of self.old)))) }
         ensures fault { result ≡ Lapsed.DiskFault → Rose (D.faults self.old.disk) (D.faults self.new.disk) }
         ensures later { D.faults self.old.disk ≤ D.faults self.new.disk }
+        ensures exact { result ≢ Lapsed.DiskFault → D.faults self.new.disk ≡ D.faults self.old.disk }
         ensures loan { D.loan self.new.disk ≡ D.loan self.old.disk }
         ensures mark { MatchOption self.new.mark (result ≢ Lapsed.DiskFault) (λ m. (result ≡ Lapsed.DiskFault) × (m.before.value ≡ self.old.disk) × (m.after.value ≡ self.new.disk)) }
     {

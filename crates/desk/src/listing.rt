@@ -1,8 +1,9 @@
 //! Lists credentials, and dismisses them.
-ghost use Rattle.std.specs.Prelude.{◌≡◌, ◌<◌, ◌≤◌, length, position, MatchOption, IfOk};
+ghost use Rattle.std.specs.Prelude.{◌≡◌, ◌≢◌, ◌<◌, ◌≤◌, length, position, IfSome, MatchOption, IfOk};
 ghost use Rattle.cmp_ports.specs.Disk.{LeavesOnly};
 ghost use Rattle.cmp_ports.specs.Faults.{Rose};
-ghost use Rattle.desk.specs.Images.{RecoversWith, DoubtOr};
+ghost use Rattle.desk.specs.History.{history_of};
+ghost use Rattle.desk.specs.Images.{RecoversWith, DoubtOr, MayCome};
 ghost use Rattle.desk.specs.Due.{event_time};
 ghost use Rattle.desk.specs.Listings.{listing_end, AreFit, is_used, AreFree, IsEnlisting, IsEnlisted, IsDismissal, IsDismissed};
 
@@ -60,12 +61,17 @@ impl<D: Disk> Desk<D> {
         requires most { length list.now ≤ 256 }
         // Each is of its form, the identifier of an HSS/LMS one is its key's, and none stands twice by kind and identifier.
         requires fit { AreFit list.now }
-        ensures ends { IsEnlisted self.old.history.items self.old.doubt list.now (event_time self.old.history.items now) result self.new.history.items self.new.doubt }
+        ensures ends { IsEnlisted (history_of self.old) self.old.doubt list.now (event_time (history_of self.old) now) result (history_of self.new) self.new.doubt }
+        // Only the change that was in doubt, or the call's own that may come next, is in doubt afterwards.
+        ensures doubt { IfSome self.new.doubt (DoubtOr self.old.doubt (MayCome (IsEnlisting list.now (event_time (history_of self.old) now)) (history_of self.old))) }
         // A stop at any moment of the call leaves the history, with the change in doubt behind it, with the list's, or alone.
-        ensures moments { LeavesOnly D.moment D.left_since self.old.disk self.new.disk (RecoversWith self.old.history.items (DoubtOr self.old.doubt (IsEnlisting list.now (event_time self.old.history.items now)))) }
+        ensures moments { LeavesOnly D.moment D.left_since self.old.disk self.new.disk (RecoversWith (history_of self.old) (DoubtOr self.old.doubt (MayCome (IsEnlisting list.now (event_time (history_of self.old) now)) (history_of self.old)))) }
         ensures fault { result ≡ Listing.DiskFault → Rose (D.faults self.old.disk) (D.faults self.new.disk) }
         ensures later { D.faults self.old.disk ≤ D.faults self.new.disk }
+        ensures exact { result ≢ Listing.DiskFault → D.faults self.new.disk ≡ D.faults self.old.disk }
         ensures loan { D.loan self.new.disk ≡ D.loan self.old.disk }
+        // The mark of another call stays.
+        ensures mark { self.new.mark ≡ self.old.mark }
     {
         let changes = self.changes();
         let time = event_time(changes, now);
@@ -84,12 +90,17 @@ impl<D: Disk> Desk<D> {
     /// Dismisses a listed credential, by its kind and identifier. The time is a clock's reading in seconds since 1970.
     pub fn dismiss(&mut self, kind: Kind, kid: &Short, now: u64) -> Listing
         requires { now ≤ 250000000000 }
-        ensures ends { IsDismissed self.old.history.items self.old.doubt kind kid.now (event_time self.old.history.items now) result self.new.history.items self.new.doubt }
+        ensures ends { IsDismissed (history_of self.old) self.old.doubt kind kid.now (event_time (history_of self.old) now) result (history_of self.new) self.new.doubt }
+        // Only the change that was in doubt, or the call's own that may come next, is in doubt afterwards.
+        ensures doubt { IfSome self.new.doubt (DoubtOr self.old.doubt (MayCome (IsDismissal kind kid.now (event_time (history_of self.old) now)) (history_of self.old))) }
         // A stop at any moment of the call leaves the history, with the change in doubt behind it, with the dismissal, or alone.
-        ensures moments { LeavesOnly D.moment D.left_since self.old.disk self.new.disk (RecoversWith self.old.history.items (DoubtOr self.old.doubt (IsDismissal kind kid.now (event_time self.old.history.items now)))) }
+        ensures moments { LeavesOnly D.moment D.left_since self.old.disk self.new.disk (RecoversWith (history_of self.old) (DoubtOr self.old.doubt (MayCome (IsDismissal kind kid.now (event_time (history_of self.old) now)) (history_of self.old)))) }
         ensures fault { result ≡ Listing.DiskFault → Rose (D.faults self.old.disk) (D.faults self.new.disk) }
         ensures later { D.faults self.old.disk ≤ D.faults self.new.disk }
+        ensures exact { result ≢ Listing.DiskFault → D.faults self.new.disk ≡ D.faults self.old.disk }
         ensures loan { D.loan self.new.disk ≡ D.loan self.old.disk }
+        // The mark of another call stays.
+        ensures mark { self.new.mark ≡ self.old.mark }
     {
         let changes = self.changes();
         let time = event_time(changes, now);

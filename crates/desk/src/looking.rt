@@ -3,6 +3,7 @@ ghost use Rattle.std.specs.Prelude.{◌≡◌, ◌≤◌, [], length, unwrap_or,
 ghost use Rattle.deal_changes.specs.Spki.{common_name};
 ghost use Rattle.deal_model.specs.Views.{AreTimely, founding};
 ghost use Rattle.deal_table.specs.History.{IsFounded, standing_for, outer_standing, brief_of, look_of, grant_receipt};
+ghost use Rattle.desk.specs.History.{history_of};
 
 use crate::desk::Desk;
 use crate::lapsing::event_time;
@@ -100,7 +101,7 @@ fn grant_receipt(alloc: Global, h: &[Change], tid: &[u8]) -> Result<Option<Recei
 impl<D: Disk> Desk<D> {
     /// What the service was founded with.
     fn settings(&self) -> &Settings
-        ensures { founding self.now.history.items ≡ Some result.now }
+        ensures { founding (history_of self.now) ≡ Some result.now }
     {
         match founding(self.changes()) {
             Some(settings) => settings,
@@ -111,8 +112,8 @@ impl<D: Disk> Desk<D> {
     /// What the history tells of a message before it is checked. The time is a clock's reading in seconds since 1970.
     pub fn look(&mut self, ask: &Ask, now: u64) -> Look
         requires { now ≤ 250000000000 }
-        ensures answer { result ≡ look_of self.old.history.items ask.now now }
-        ensures founded { IsFounded self.old.history.items }
+        ensures answer { result ≡ look_of (history_of self.old) ask.now now }
+        ensures founded { IsFounded (history_of self.old) }
         ensures time { result.time ≤ 250000000000 }
         ensures same { self.new ≡ self.old }
     {
@@ -121,7 +122,7 @@ impl<D: Disk> Desk<D> {
 
     /// What the reply to a transaction's Grant needs; none exactly where there is no Grant.
     pub fn granted(&mut self, tid: &Short) -> Result<Option<Receipt>, AllocError>
-        ensures receipt { IfOk result (λ r. r ≡ grant_receipt self.old.history.items tid.now) }
+        ensures receipt { IfOk result (λ r. r ≡ grant_receipt (history_of self.old) tid.now) }
         ensures same { self.new ≡ self.old }
     {
         grant_receipt(*self.history.allocator(), self.changes(), tid.as_slice())

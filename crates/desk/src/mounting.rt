@@ -1,10 +1,12 @@
 //! Mounts the history that a disk holds.
-ghost use Rattle.std.specs.Prelude.{◌≡◌, ◌≤◌, ℕ, List, length, Some, None, IfOk, IfErr, OnOk, IsErrOf, MatchResult};
-ghost use Rattle.cmp_ports.specs.Disk.{Among, LeavesOnly};
+ghost use Rattle.std.specs.Prelude.{◌≡◌, ◌≢◌, ◌≤◌, ℕ, List, length, Some, None, Err, IfOk, IfErr, OnOk, IsErrOf, MatchResult};
+ghost use Rattle.cmp_ports.specs.Disk.{Among, Every, LeavesOnly};
 ghost use Rattle.cmp_ports.specs.Faults.{Rose};
 ghost use Rattle.deal_changes.specs.Spelling.{spelling};
 ghost use Rattle.deal_model.specs.Views.{AreTimely};
 ghost use Rattle.deal_model.specs.Rules.{Allowed, Legal};
+ghost use Rattle.desk.specs.History.{history_of};
+ghost use Rattle.desk.specs.Images.{Recovers};
 ghost use Rattle.desk.specs.Mounts.{IsStopped, Replays, Stands, Refuses};
 
 use crate::desk::Desk;
@@ -65,6 +67,8 @@ fn replay(alloc: Global, payloads: &[Octets]) -> Result<Vec<Change>, MountFault>
 pub fn history_on<D: Disk>(alloc: Global, disk: &mut D) -> Result<Vec<Change>, MountFault>
     // The history that the content recovers to, or why there is none.
     ensures told { (f : List ℕ) → D.content disk.old ≡ Some f → MatchResult result (λ v. Stands f v.items) (λ fault. Refuses f fault) }
+    // Each image of the disk recovers to it.
+    ensures stands { IfOk result (λ v. Every (D.images disk.new) (λ c. Recovers c v.items)) }
     ensures legal { IfOk result (λ v. Legal v.items) }
     ensures timely { IfOk result (λ v. AreTimely v.items) }
     ensures bounded { IfOk result (λ v. length v.items ≤ 262144) }
@@ -74,6 +78,7 @@ pub fn history_on<D: Disk>(alloc: Global, disk: &mut D) -> Result<Vec<Change>, M
     ensures moments { LeavesOnly D.moment D.left_since disk.old disk.new (D.images disk.old) }
     ensures fault { IsErrOf result MountFault.DiskFault → Rose (D.faults disk.old) (D.faults disk.new) }
     ensures kept { OnOk result (D.faults disk.new ≡ D.faults disk.old) }
+    ensures exact { result ≢ Err MountFault.DiskFault → D.faults disk.new ≡ D.faults disk.old }
     ensures later { D.faults disk.old ≤ D.faults disk.new }
     ensures loan { D.loan disk.new ≡ D.loan disk.old }
 {
@@ -88,7 +93,7 @@ impl<D: Disk> Desk<D> {
     /// next, with the offset of its gate; or where there is no record, with the offset 8. The disk comes back beside a fault.
     pub fn mount(alloc: Global, disk: D) -> Result<Desk<D>, (D, MountFault)>
         // The history that the content recovers to, or why there is none.
-        ensures told { (f : List ℕ) → D.content disk ≡ Some f → MatchResult result (λ d. Stands f d.history.items) (λ r. Refuses f r.1) }
+        ensures told { (f : List ℕ) → D.content disk ≡ Some f → MatchResult result (λ d. Stands f (history_of d)) (λ r. Refuses f r.1) }
         ensures clear { IfOk result (λ d. d.doubt ≡ None) }
         ensures same { MatchResult result (λ d. D.content d.disk ≡ D.content disk) (λ r. D.content r.0 ≡ D.content disk) }
         ensures crash { MatchResult result (λ d. Among (D.images disk) (D.images d.disk)) (λ r. Among (D.images disk) (D.images r.0)) }
@@ -96,7 +101,9 @@ impl<D: Disk> Desk<D> {
         ensures moments { MatchResult result (λ d. LeavesOnly D.moment D.left_since disk d.disk (D.images disk)) (λ r. LeavesOnly D.moment D.left_since disk r.0 (D.images disk)) }
         ensures fault { IfErr result (λ r. r.1 ≡ MountFault.DiskFault → Rose (D.faults disk) (D.faults r.0)) }
         ensures later { MatchResult result (λ d. D.faults d.disk ≡ D.faults disk) (λ r. D.faults disk ≤ D.faults r.0) }
+        ensures exact { IfErr result (λ r. r.1 ≢ MountFault.DiskFault → D.faults r.0 ≡ D.faults disk) }
         ensures loan { MatchResult result (λ d. D.loan d.disk ≡ D.loan disk) (λ r. D.loan r.0 ≡ D.loan disk) }
+        ensures mark { IfOk result (λ d. d.mark ≡ None) }
     {
         let mut disk = disk;
         let (journal, payloads) = match Journal::mount(alloc, &mut disk, &MAGIC) {

@@ -1,5 +1,6 @@
 //! A clerk that has its desk to itself.
 ghost use Rattle.std.specs.Prelude.{◌≡◌, ◌≤◌, ℕ, length, None};
+ghost use Rattle.desk.specs.History.{history_of};
 
 use crate::answers::{Lapsed, Ordered};
 use crate::clerk::Clerk;
@@ -17,7 +18,7 @@ pub struct SoleClerk<'a, D: Disk> {
     desk: &'a mut Desk<D>,
     /// How many changes the desk had when it was lent.
     opening: u64,
-    ghost since: { opening ≤ length desk.now.history.items },
+    ghost since: { opening ≤ length (history_of desk.now) },
 }
 
 impl<'a, D: Disk> SoleClerk<'a, D> {
@@ -25,7 +26,7 @@ impl<'a, D: Disk> SoleClerk<'a, D> {
     pub fn new(desk: &'a mut Desk<D>) -> SoleClerk<'a, D>
         ensures desk { result.desk.now ≡ desk.old }
         ensures loan { result.desk.ghost_name ≡ desk.entry.ghost_name }
-        ensures opening { result.opening ≡ length desk.old.history.items }
+        ensures opening { result.opening ≡ length (history_of desk.old) }
     {
         let opening = desk.length();
         SoleClerk { desk, opening }
@@ -43,9 +44,9 @@ impl<'a, D: Disk> SoleClerk<'a, D> {
 impl<'a, D: Disk> Clerk for SoleClerk<'a, D> {
     ghost use Rattle.desk.specs.Clerks.{places_since};
 
-    ghost seen = { λ k. k.desk.now.history.items };
+    ghost seen = { λ k. history_of k.desk.now };
 
-    ghost mine = { λ k. places_since k.opening k.desk.now.history.items };
+    ghost mine = { λ k. places_since k.opening (history_of k.desk.now) };
 
     ghost faults = { λ k. D.faults k.desk.now.disk };
 

@@ -123,7 +123,7 @@ pub(crate) fn request(alloc: Global, digest: u8, key: &str) -> Option<Checked<'s
     ensures { IfSome result FitsChecked }
 {
     let wish = wish(alloc, key)?;
-    Some(checked(digest, short(b"T"), Job::Enrol(Body4::Ir, wish, None), None))
+    Some(checked(digest, short(b"T"), Job::Enrol(Body4::Ir, wish), None))
 }
 
 /// A certConf of the log's Grant, and whether its hash is the certificate's, where that was asked.

@@ -7,7 +7,7 @@
 ghost use Rattle.std.specs.Prelude.{◌≡◌, ◌≤◌, length, false, IfOk};
 ghost use Rattle.journal_core.specs.Journal.{IsSound, is_doubtful};
 
-use cmp_ports::{Disk, FileDisk, MemDisk};
+use cmp_ports::{Disk, FileDisk, MemDisk, Opening};
 use journal_core::{Journal, Record};
 use std::alloc::Global;
 use std::time::{Clock, Instant};
@@ -67,7 +67,11 @@ fn long_log(alloc: Global, entry: &Record, count: u32) -> io::Result<Vec<u8>> {
 fn time_append(rt: &HostRuntime, path: &str, entry: &Record) -> io::Result<u128> {
     let alloc = rt.alloc();
     fs::write(rt, path, b"".as_slice())?;
-    let mut disk = FileDisk::new(rt, String::from_str(alloc, path).map_err(other)?);
+    let mut disk = FileDisk::new(
+        rt,
+        String::from_str(alloc, path).map_err(other)?,
+        Opening::Existing,
+    );
     let mut journal = begin(alloc, &mut disk, b"first")?;
     let start = Instant::now(rt)?;
     append_all(&mut journal, &mut disk, entry, APPENDS)?;
@@ -78,7 +82,11 @@ fn time_append(rt: &HostRuntime, path: &str, entry: &Record) -> io::Result<u128>
 fn time_mount(rt: &HostRuntime, path: &str, entry: &Record, count: u32) -> io::Result<u128> {
     let alloc = rt.alloc();
     fs::write(rt, path, long_log(alloc, entry, count)?.as_slice())?;
-    let mut disk = FileDisk::new(rt, String::from_str(alloc, path).map_err(other)?);
+    let mut disk = FileDisk::new(
+        rt,
+        String::from_str(alloc, path).map_err(other)?,
+        Opening::Existing,
+    );
     disk.sync().map_err(other)?;
     let start = Instant::now(rt)?;
     let (_, payloads) = Journal::mount(alloc, &mut disk, &MAGIC).map_err(other)?;

@@ -1,11 +1,13 @@
 -- The first octet of a disk, and the log that found begins.
-use Rattle.std.proofs.Common.{◌≡◌, ◌⊎◌, inl, inr, ℕ, zero, suc, ◌+◌, ◌<◌, ◌≤◌, ◌^◌, nat_eq, nat_lt, false, List, [], ◌∷◌, ◌++◌, length, take, slice_index_or, refl, sym, ◌∙◌, ap, subst, arith, length-append}
+use Rattle.std.proofs.Common.{◌≡◌, ◌⊎◌, inl, inr, ℕ, zero, suc, ◌+◌, ◌<◌, ◌≤◌, ◌^◌, nat_eq, nat_lt, Bool, false, List, [], ◌∷◌, ◌++◌, length, take, drop, slice_index_or, refl, sym, ◌∙◌, ap, subst, arith, length-append}
 use Rattle.std.proofs.lemmas.List.{append-nil}
-use Rattle.std.proofs.lemmas.Bool.{cases_eq, eqb-false}
-use Rattle.cmp_ports.specs.Disk.{Every}
+use Rattle.std.specs.Prelude.{if◌then◌else◌}
+use Rattle.std.proofs.lemmas.Bool.{cases_eq, eqb-false, le-leb, lt-leb}
+use Rattle.cmp_ports.specs.Disk.{Every, overwritten}
 use Rattle.journal_core.specs.declared.journal.Doubt.TheVariants.{Clear}
 use Rattle.journal_core.specs.Log.{framed, log_of, is_open, ClosedAfter, Recovers}
 use Rattle.journal_core.specs.Staged.{StagedAfter}
+use Rattle.journal_core.specs.Mounted.{prepared}
 use Rattle.journal_core.specs.Seal.{IsBodyFor}
 use Rattle.journal_core.specs.Journal.{IsKeptAs}
 use Rattle.journal_core.proofs.Logs.{length-framed}
@@ -51,3 +53,11 @@ module _ (magic first : List ℕ) where
         inr record { small = (fit, tt); closed = record { gate = staged.next; rest = staged.rest; shut = staged.shut; parts = whole } }
     | inr shut ↦ inl record { gate = staged.gate; rest = (magic ++ 1 ∷ framed first) ++ staged.next ∷ staged.rest; shut = shut; parts = staged.parts }
   ]
+
+-- ---- what prepare makes of the content
+
+pub prepared_long : (f : List ℕ) → 9 ≤ length f → f ≡ prepared f
+prepared_long f long = ap (λ (b : Bool). if b then f else 0 ∷ drop 1 f) (sym (le-leb 9 (length f) long))
+
+pub prepared_short : (f : List ℕ) → length f < 9 → overwritten 0 (0 ∷ []) f ≡ prepared f
+prepared_short f short = ap (λ (b : Bool). if b then f else 0 ∷ drop 1 f) (sym (lt-leb 9 (length f) short))

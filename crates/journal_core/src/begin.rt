@@ -1,9 +1,9 @@
 //! Makes a disk ready, and begins a log on it.
-ghost use Rattle.std.specs.Prelude.{◌≡◌, ◌⊎◌, ◌+◌, ◌<◌, ◌≤◌, ◌^◌, ℕ, List, [], ◌∷◌, ◌++◌, length, true, false, Some, IfOk, OnOk, OnErr, IsErrOf};
+ghost use Rattle.std.specs.Prelude.{◌≡◌, ◌≢◌, ◌⊎◌, ◌+◌, ◌<◌, ◌≤◌, ◌^◌, ℕ, List, [], ◌∷◌, ◌++◌, length, true, false, Some, Err, IfOk, OnOk, OnErr, IsErrOf};
 ghost use Rattle.cmp_ports.specs.Disk.{Every, Among, Settled, LeavesOnly};
 ghost use Rattle.cmp_ports.specs.Faults.{Rose, HasCause};
 ghost use Rattle.journal_core.specs.Log.{framed, is_open, is_founded, ClosedAfter, Recovers};
-ghost use Rattle.journal_core.specs.Mounted.{IsPrepared};
+ghost use Rattle.journal_core.specs.Mounted.{IsPrepared, prepared};
 
 use crate::fault::{BeginFault, PrepareFault};
 use crate::journal::{Doubt, Journal};
@@ -63,6 +63,13 @@ impl Journal {
     pub fn prepare<D: Disk>(disk: &mut D) -> Result<(), PrepareFault>
         ensures told { (f : List ℕ) → D.content disk.old ≡ Some f → IsPrepared f result }
         ensures prepared { OnOk result (Every (D.images disk.new) (ClosedAfter [])) }
+
+        // After Ok the gate is 0, and no other octet is written.
+        ensures gate { OnOk result ((f : List ℕ) → D.content disk.old ≡ Some f → D.content disk.new ≡ Some (prepared f)) }
+
+        // A founded disk stays as it was, whatever the answer.
+        ensures spared { (f : List ℕ) → D.content disk.old ≡ Some f → is_founded f ≡ true
+            → (D.content disk.new ≡ D.content disk.old) × Among (D.images disk.old) (D.images disk.new) × LeavesOnly D.moment D.left_since disk.old disk.new (D.images disk.old) }
         ensures already { IsErrOf result PrepareFault.Already → D.content disk.new ≡ D.content disk.old }
         ensures crash { IsErrOf result PrepareFault.Already → Among (D.images disk.old) (D.images disk.new) }
         ensures untouched { IsErrOf result PrepareFault.Already → LeavesOnly D.moment D.left_since disk.old disk.new (D.images disk.old) }
@@ -73,6 +80,7 @@ impl Journal {
         ensures fault { IsErrOf result PrepareFault.DiskFault → Rose (D.faults disk.old) (D.faults disk.new) }
         ensures later { D.faults disk.old ≤ D.faults disk.new }
         ensures kept { OnOk result (D.faults disk.new ≡ D.faults disk.old) }
+        ensures exact { result ≢ Err PrepareFault.DiskFault → D.faults disk.new ≡ D.faults disk.old }
         ensures loan { D.loan disk.new ≡ D.loan disk.old }
     {
         let (size, open) = match look(disk) {

@@ -42,6 +42,7 @@ fn read_piece<D: Disk>(
     ensures fault { IsErrOf result ImageFault.Failed → Rose (D.faults disk.old) (D.faults disk.new) }
     ensures later { D.faults disk.old ≤ D.faults disk.new }
     ensures kept { OnOk result (D.faults disk.new ≡ D.faults disk.old) }
+    ensures memory { IsErrOf result ImageFault.NoMemory → D.faults disk.new ≡ D.faults disk.old }
     ensures loan { D.loan disk.new ≡ D.loan disk.old }
 {
     let at = image.len();
@@ -71,6 +72,7 @@ fn read_rest<D: Disk>(
     ensures fault { IsErrOf result ImageFault.Failed → Rose (D.faults disk.old) (D.faults disk.new) }
     ensures later { D.faults disk.old ≤ D.faults disk.new }
     ensures kept { OnOk result (D.faults disk.new ≡ D.faults disk.old) }
+    ensures memory { IsErrOf result ImageFault.NoMemory → D.faults disk.new ≡ D.faults disk.old }
     ensures loan { D.loan disk.new ≡ D.loan disk.old }
 {
     'pieces: while (image.len() as u64) < size {
@@ -90,6 +92,7 @@ pub(crate) fn read_image<D: Disk>(alloc: Global, disk: &mut D) -> Result<Vec<u8>
     ensures fault { IsErrOf result ImageFault.Failed → Rose (D.faults disk.old) (D.faults disk.new) }
     ensures later { D.faults disk.old ≤ D.faults disk.new }
     ensures kept { OnOk result (D.faults disk.new ≡ D.faults disk.old) }
+    ensures memory { IsErrOf result ImageFault.NoMemory → D.faults disk.new ≡ D.faults disk.old }
     ensures loan { D.loan disk.new ≡ D.loan disk.old }
 {
     let size = match disk.size() {

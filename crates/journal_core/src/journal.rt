@@ -47,6 +47,9 @@ impl Journal {
         ensures full { (magic : List ℕ) (payloads : List (List ℕ)) → IsAtRest magic payloads self.old (D.images disk.old)
             → (result ≡ Err AppendFault.Full) ↔ IsTrue (is_past_limit (length payloads) (length (log_of magic payloads)) (length entry.now + 5)) }
 
+        // Full leaves the disk alone.
+        ensures untouched { IsErrOf result AppendFault.Full → disk.new ≡ disk.old }
+
         // Where it fails before it begins to write the gate, no image of any moment of the call has the payload.
         ensures unbegun { (magic : List ℕ) (payloads : List (List ℕ)) → IsAtRest magic payloads self.old (D.images disk.old)
             → IsErrOf result AppendFault.DiskFault → has_begun_gate self.new ≡ false → LeavesOnly D.moment D.left_since disk.old disk.new (IsWithout magic payloads entry.now) }

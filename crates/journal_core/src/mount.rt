@@ -1,5 +1,5 @@
 //! Mounts the journal that a disk holds.
-ghost use Rattle.std.specs.Prelude.{◌≡◌, ◌≤◌, ℕ, List, Some, IfOk, OnOk, IsErrOf};
+ghost use Rattle.std.specs.Prelude.{◌≡◌, ◌≢◌, ◌≤◌, ℕ, List, Some, Err, IfOk, OnOk, IsErrOf};
 ghost use Rattle.cmp_ports.specs.Disk.{Among, LeavesOnly};
 ghost use Rattle.cmp_ports.specs.Faults.{Rose};
 ghost use Rattle.journal_core.specs.Mounted.{Reads};
@@ -35,6 +35,7 @@ impl Journal {
         ensures fault { IsErrOf result MountFault.DiskFault → Rose (D.faults disk.old) (D.faults disk.new) }
         ensures later { D.faults disk.old ≤ D.faults disk.new }
         ensures kept { OnOk result (D.faults disk.new ≡ D.faults disk.old) }
+        ensures exact { result ≢ Err MountFault.DiskFault → D.faults disk.new ≡ D.faults disk.old }
         ensures loan { D.loan disk.new ≡ D.loan disk.old }
     {
         match disk.sync() {

@@ -1,5 +1,5 @@
 //! The two writes that make octets count: the octets with a closed gate behind them, and then the open gate.
-ghost use Rattle.std.specs.Prelude.{◌≡◌, ◌⊎◌, ◌+◌, ◌^◌, ◌<◌, ◌≤◌, ℕ, List, length, Some, OnOk, IsErrOf};
+ghost use Rattle.std.specs.Prelude.{◌≡◌, ◌⊎◌, ◌+◌, ◌^◌, ◌<◌, ◌≤◌, ℕ, List, length, Some, option_map, OnOk, IsErrOf};
 ghost use Rattle.cmp_ports.specs.Disk.{Torn, Follows, Reached, Every, LeavesOnly, overwritten};
 ghost use Rattle.cmp_ports.specs.Faults.{HasCause};
 ghost use Rattle.journal_core.specs.Log.{ClosedAfter};
@@ -23,6 +23,7 @@ pub(crate) fn write_through<D: Disk>(disk: &mut D, at: u64, octets: &[u8]) -> Re
     requires small { at + length octets.now ≤ 2 ^ 40 }
     ensures torn { Follows (Torn at (length octets.now)) (D.images disk.old) (D.images disk.new) }
     ensures written { OnOk result (Follows (λ d c. c ≡ overwritten at octets.now d) (D.images disk.old) (D.images disk.new)) }
+    ensures content { OnOk result (D.content disk.new ≡ option_map (overwritten at octets.now) (D.content disk.old)) }
     ensures moments { LeavesOnly D.moment D.left_since disk.old disk.new (Reached (Torn at (length octets.now)) (D.images disk.old)) }
     ensures cause { HasCause (D.faults disk.old) (D.faults disk.new) result }
     ensures loan { D.loan disk.new ≡ D.loan disk.old }

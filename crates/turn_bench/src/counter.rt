@@ -16,6 +16,8 @@ impl Chronicle for Counter {
 
     ghost history = { λ c. entries c.turns };
 
+    ghost kept = { λ _. Unit {0} };
+
     fn length(&self) -> u64 {
         self.turns
     }

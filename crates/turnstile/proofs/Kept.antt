@@ -12,7 +12,7 @@ use Rattle.turnstile.specs.Views.{tickets, HasTicket, IsHolding}
 use Rattle.turnstile.proofs.Totals.{total_set, total_le}
 use Rattle.turnstile.proofs.Views.{tickets_shared, holder_ticket, each_set, apart_set}
 
-module _ {T E : Type 0} (history : T → List E) {seats opening : ℕ} (s : State (Option T) (View E)) (h : TurnRule history seats opening s) where
+module _ {T E : Type 0} (history : T → List E) (kept : T → Type 0) {seats opening : ℕ} (s : State (Option T) (View E)) (h : TurnRule history kept seats opening s) where
   -- the three words
   pub word_0 : slice_index s.words 0 ≡ h.next % 2 ^ 64
   word_0 = ap (λ (l : List ℕ). slice_index l 0) h.words
@@ -43,8 +43,8 @@ module _ {T E : Type 0} (history : T → List E) {seats opening : ℕ} (s : Stat
       → ((j : ℕ) (u : View E) → j ≢ id → get_elem? s.views j ≡ some u → Fits now next log (homes ≡ none ∷ []) u)
       → ((t j : ℕ) (u : View E) → HasTicket t w.stage → j ≢ id → get_elem? s.views j ≡ some u → ¬ HasTicket t u.stage)
       → Longest log (set s.views id w)
-      → Slot history log (set s.views id w) homes
-      → TurnRule history seats opening (record { words = words; homes = homes; views = set s.views id w })
+      → Slot history kept log (set s.views id w) homes
+      → TurnRule history kept seats opening (record { words = words; homes = homes; views = set s.views id w })
   kept_set words homes id v w now next log at is line share later places here others alone longest slot = record {
     now = now;
     next = next;
@@ -70,7 +70,7 @@ module _ {T E : Type 0} (history : T → List E) {seats opening : ℕ} (s : Stat
       omega arith
 
   -- the value is at home where the ticket that is served is that of a seat that waits
-  pub at_home : (id : ℕ) (v : View E) (k : ℕ) → get_elem? s.views id ≡ some v → v.stage ≡ Waits k → h.now % 2 ^ 64 ≡ k → (y : T) × (s.homes ≡ some (Some y) ∷ []) × (history y ≡ h.log)
+  pub at_home : (id : ℕ) (v : View E) (k : ℕ) → get_elem? s.views id ≡ some v → v.stage ≡ Waits k → h.now % 2 ^ 64 ≡ k → (y : T) × (s.homes ≡ some (Some y) ∷ []) × (history y ≡ h.log) × kept y
   at_home id v k at waits found =
       ⊎_elim
       (λ home. home)

@@ -48,9 +48,9 @@ module _ {E : Type 0} where
       (i, both, there, some_share, whole (inr (ap (λ (u : View E). u.seen) (sym same) ∙ l.4))))
       (λ m. (l.0, l.1, set_else (set views i both) j l.0 rest m ∙ set_else views i l.0 both n ∙ l.2, l.3, l.4)))
 
-module _ {T E : Type 0} (history : T → List E) (seats opened : ℕ) where
+module _ {T E : Type 0} (history : T → List E) (kept : T → Type 0) (seats opened : ℕ) where
   abbrev K : State (Option T) (View E) → Type 0
-  K = TurnRule history seats opened
+  K = TurnRule history kept seats opened
 
   -- splitting a seat off
   pub splits : (id : ℕ) (v : View E) → v.stage ≡ Idle → 2 ≤ v.share → Splits K id v (one_less v) (one_more v)
@@ -114,9 +114,9 @@ only_first v zero u P p e = subst P (some-injective v u e) p
 only_first v (suc i) u P p e = absurd (some-ne-none u (sym e))
 
 -- the rule at the start
-pub opens : {T E : Type 0} (history : T → List E) (seats : ℕ) (value : T) → 0 < seats → seats < 2 ^ 32 → length (history value) < 2 ^ 64
-    → TurnRule history seats (length (history value)) (opening (0 ∷ 0 ∷ length (history value) ∷ []) (Some value ∷ []) (newcomer (history value) seats))
-opens {T} {E} history seats value some_seats few short =
+pub opens : {T E : Type 0} (history : T → List E) (kept : T → Type 0) (seats : ℕ) (value : T) → kept value → 0 < seats → seats < 2 ^ 32 → length (history value) < 2 ^ 64
+    → TurnRule history kept seats (length (history value)) (opening (0 ∷ 0 ∷ length (history value) ∷ []) (Some value ∷ []) (newcomer (history value) seats))
+opens {T} {E} history kept seats value keeping some_seats few short =
     let log : List E = history value in
     let v : View E = newcomer log seats in
     record {
@@ -132,19 +132,20 @@ opens {T} {E} history seats value some_seats few short =
       each = (λ i u e. only_first v i u (λ x. Fits 0 0 log (some (Some value) ∷ [] ≡ none ∷ []) x) (record { stage = tt; seen = prefix_self log; spent = λ z. absurd (omega arith) }) e);
       apart = (λ i j u x t e d p q. absurd (only_first v i u (λ y. ¬ HasTicket t y.stage) (λ y. absurd y) e p));
       longest = (0, v, refl, some_seats, refl);
-      slot = inl (value, refl, refl);
+      slot = inl (value, refl, refl, keeping);
     }
 
 -- what the rule says at the end, when one seat counts for all
-pub record Closed {T E : Type 0} (history : T → List E) (opened : ℕ) (v : View E) (slot : Option T) : Type 0 where
+pub record Closed {T E : Type 0} (history : T → List E) (kept : T → Type 0) (opened : ℕ) (v : View E) (slot : Option T) : Type 0 where
   pub value : T
   pub there : slot ≡ Some value
+  pub held : kept value
   pub seen : history value ≡ v.seen
   pub mine : (p : ℕ) → times p v.mine ≡ once opened (length (history value)) p
   pub count : opened + length v.mine ≡ length (history value)
 
 -- a seat without a ticket that counts for all, at the end
-module _ {T E : Type 0} (history : T → List E) {seats opened : ℕ} (s : State (Option T) (View E)) (h : TurnRule history seats opened s) (id : ℕ) (v : View E) (at : get_elem? s.views id ≡ some v) (all : v.share ≡ seats) where
+module _ {T E : Type 0} (history : T → List E) (kept : T → Type 0) {seats opened : ℕ} (s : State (Option T) (View E)) (h : TurnRule history kept seats opened s) (id : ℕ) (v : View E) (at : get_elem? s.views id ≡ some v) (all : v.share ≡ seats) where
   -- no other seat counts for any
   alone : (j : ℕ) (u : View E) → j ≢ id → get_elem? s.views j ≡ some u → u.share ≡ 0
   alone j u other a = let t = total_two (λ (x : View E). x.share) s.views j id u v other a at in let l = h.shares in omega arith
@@ -177,48 +178,49 @@ module _ {T E : Type 0} (history : T → List E) {seats opened : ℕ} (s : State
       (λ n. subst IsHolding ((h.each i u at_u).spent (alone i u n at_u)).1 x.3)
 
   -- the value is at home
-  at_the_end : v.stage ≡ Idle → (y : T) × (s.homes ≡ some (Some y) ∷ []) × (history y ≡ h.log)
+  at_the_end : v.stage ≡ Idle → (y : T) × (s.homes ≡ some (Some y) ∷ []) × (history y ≡ h.log) × kept y
   at_the_end idle = ⊎_elim (λ x. x) (λ x. absurd (no_holder idle x.1)) h.slot
 
   -- what is known of the value that lies in the slot
-  closed_at : (y : T) (slot : Option T) → slot ≡ Some y → history y ≡ h.log → Closed history opened v slot
-  closed_at y slot there is =
+  closed_at : (y : T) (slot : Option T) → slot ≡ Some y → history y ≡ h.log → kept y → Closed history kept opened v slot
+  closed_at y slot there is keeping =
       let n : ℕ = length (history y) in
       let same : length h.log ≡ n = ap length (sym is) in
       let places : (p : ℕ) → times p v.mine ≡ once opened n p = subst (λ k. (p : ℕ) → times p v.mine ≡ once opened k p) same only_places in
       record {
         value = y;
         there = there;
+        held = keeping;
         seen = is ∙ sym whole;
         mine = places;
         count = places_count opened n v.mine (subst (λ k. opened ≤ k) same h.later) places;
       }
 
-pub closes : {T E : Type 0} (history : T → List E) (seats opened id : ℕ) (v : View E) (words : List ℕ) (slots : List (Option T)) (slot : Option T)
-    → v.stage ≡ Idle → v.share ≡ seats → get_elem? slots 0 ≡ some slot → Final (Seen (TurnRule history seats opened) id v) words slots → Closed history opened v slot
-closes {T} {E} history seats opened id v words slots slot idle all at_slot final =
+pub closes : {T E : Type 0} (history : T → List E) (kept : T → Type 0) (seats opened id : ℕ) (v : View E) (words : List ℕ) (slots : List (Option T)) (slot : Option T)
+    → v.stage ≡ Idle → v.share ≡ seats → get_elem? slots 0 ≡ some slot → Final (Seen (TurnRule history kept seats opened) id v) words slots → Closed history kept opened v slot
+closes {T} {E} history kept seats opened id v words slots slot idle all at_slot final =
     let s = final.0 in
-    let h : TurnRule history seats opened s = final.1.0 in
+    let h : TurnRule history kept seats opened s = final.1.0 in
     let at : get_elem? s.views id ≡ some v = final.1.1 in
-    let home = at_the_end history s h id v at all idle in
+    let home = at_the_end history kept s h id v at all idle in
     let y : T = home.0 in
     let at_home : get_elem? s.homes 0 ≡ some (some (Some y)) = ap (λ (hs : List (maybe.Option (Option T))). get_elem? hs 0) home.1 in
     let there : slot ≡ Some y = some-injective slot (Some y) (sym at_slot ∙ final.4 0 (Some y) at_home) in
-    closed_at history s h id v at all y slot there home.2
+    closed_at history kept s h id v at all y slot there home.2 home.3
 
 -- the rule at the start, of a copy of the value and of what was stored
-pub opens_as : {T E : Type 0} (history : T → List E) (seats : ℕ) (value copy : T) (len : ℕ) (slots : List (Option T)) → 0 < seats → seats < 2 ^ 32 → len < 2 ^ 64 → len ≡ length (history value) → copy ≡ value → slots ≡ Some value ∷ []
-    → TurnRule history seats (length (history copy)) (opening (0 ∷ 0 ∷ len ∷ []) slots (newcomer (history copy) seats))
-opens_as {T} {E} history seats value copy len slots some_seats few short is same stored =
-    let at_value = opens history seats value some_seats few (subst (λ n. n < 2 ^ 64) is short) in
-    let at_length = subst (λ n. TurnRule history seats (length (history value)) (opening (0 ∷ 0 ∷ n ∷ []) (Some value ∷ []) (newcomer (history value) seats))) (sym is) at_value in
-    let at_slots = subst (λ (xs : List (Option T)). TurnRule history seats (length (history value)) (opening (0 ∷ 0 ∷ len ∷ []) xs (newcomer (history value) seats))) (sym stored) at_length in
-    subst (λ (x : T). TurnRule history seats (length (history x)) (opening (0 ∷ 0 ∷ len ∷ []) slots (newcomer (history x) seats))) (sym same) at_slots
+pub opens_as : {T E : Type 0} (history : T → List E) (kept : T → Type 0) (seats : ℕ) (value copy : T) (len : ℕ) (slots : List (Option T)) → 0 < seats → seats < 2 ^ 32 → len < 2 ^ 64 → len ≡ length (history value) → copy ≡ value → slots ≡ Some value ∷ [] → kept value
+    → TurnRule history kept seats (length (history copy)) (opening (0 ∷ 0 ∷ len ∷ []) slots (newcomer (history copy) seats))
+opens_as {T} {E} history kept seats value copy len slots some_seats few short is same stored keeping =
+    let at_value = opens history kept seats value keeping some_seats few (subst (λ n. n < 2 ^ 64) is short) in
+    let at_length = subst (λ n. TurnRule history kept seats (length (history value)) (opening (0 ∷ 0 ∷ n ∷ []) (Some value ∷ []) (newcomer (history value) seats))) (sym is) at_value in
+    let at_slots = subst (λ (xs : List (Option T)). TurnRule history kept seats (length (history value)) (opening (0 ∷ 0 ∷ len ∷ []) xs (newcomer (history value) seats))) (sym stored) at_length in
+    subst (λ (x : T). TurnRule history kept seats (length (history x)) (opening (0 ∷ 0 ∷ len ∷ []) slots (newcomer (history x) seats))) (sym same) at_slots
 
 -- the value in the slot at the end is what is given out
-pub closed_with : {T E : Type 0} (history : T → List E) (opened : ℕ) (v : View E) (slot : Option T) (r : T) → Closed history opened v slot → slot ≡ Some r → (history r ≡ v.seen) × ((p : ℕ) → times p v.mine ≡ once opened (length (history r)) p) × (opened + length v.mine ≡ length (history r))
-closed_with {T} {E} history opened v slot r c is =
+pub closed_with : {T E : Type 0} (history : T → List E) (kept : T → Type 0) (opened : ℕ) (v : View E) (slot : Option T) (r : T) → Closed history kept opened v slot → slot ≡ Some r → (history r ≡ v.seen) × ((p : ℕ) → times p v.mine ≡ once opened (length (history r)) p) × (opened + length v.mine ≡ length (history r)) × kept r
+closed_with {T} {E} history kept opened v slot r c is =
     let value : T = c.value in
     let there : slot ≡ Some value = c.there in
     let same : value ≡ r = cc in
-    subst (λ (y : T). (history y ≡ v.seen) × ((p : ℕ) → times p v.mine ≡ once opened (length (history y)) p) × (opened + length v.mine ≡ length (history y))) same (c.seen, c.mine, c.count)
+    subst (λ (y : T). (history y ≡ v.seen) × ((p : ℕ) → times p v.mine ≡ once opened (length (history y)) p) × (opened + length v.mine ≡ length (history y)) × kept y) same (c.seen, c.mine, c.count, c.held)

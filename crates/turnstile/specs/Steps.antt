@@ -56,10 +56,10 @@ module _ {T E : Type 0} where
   abbrev pub heard : Step (Option T) → Mine T E → ℕ → Mine T E → Type 0
   heard st m n m' = (m' ≡ (with_stage m.0 Idle, m.1)) × Heard m.0.stage m.0.seen × ((p : ℕ) → times p m.0.mine ≤ 1)
 
-module _ {T E : Type 0} (history : T → List E) where
-  -- the seat has the turn and the slot with the value, whose history begins with all that the seat has seen
+module _ {T E : Type 0} (history : T → List E) (kept : T → Type 0) where
+  -- the seat has the turn and the slot with the value, whose history begins with all that the seat has seen, and which is as each turn keeps it
   abbrev pub Got : Mine T E → Mine T E → Type 0
-  Got m m' = (y : T) × (m' ≡ (with_stage m.0 (Holds (ticket_of m.0.stage) (history y)), (0, Some y) ∷ [])) × IsPrefix m.0.seen (history y)
+  Got m m' = (y : T) × (m' ≡ (with_stage m.0 (Holds (ticket_of m.0.stage) (history y)), (0, Some y) ∷ [])) × IsPrefix m.0.seen (history y) × kept y
 
   -- looking at the ticket that is served: the seat has the turn where it is its own, else it waits on
   abbrev pub looked : Step (Option T) → Mine T E → ℕ → Mine T E → Type 0

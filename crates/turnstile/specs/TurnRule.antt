@@ -41,10 +41,10 @@ module _ {E : Type 0} where
   abbrev pub Holder : List (View E) → Type 0
   Holder views = (i : ℕ) × (v : View E) × (get_elem? views i ≡ some v) × IsHolding v.stage
 
-module _ {T E : Type 0} (history : T → List E) where
-  -- the value is at home and has the history, or a seat with the turn has taken it out
+module _ {T E : Type 0} (history : T → List E) (kept : T → Type 0) where
+  -- the value is at home, has the history and is as each turn keeps it, or a seat with the turn has taken it out
   abbrev pub Slot : List E → List (View E) → List (maybe.Option (Option T)) → Type 0
-  Slot log views homes = ((y : T) × (homes ≡ some (Some y) ∷ []) × (history y ≡ log)) ⊎ ((homes ≡ none ∷ []) × Holder views)
+  Slot log views homes = ((y : T) × (homes ≡ some (Some y) ∷ []) × (history y ≡ log) × kept y) ⊎ ((homes ≡ none ∷ []) × Holder views)
 
   -- seats is the number of seats, and opening the length of the history at the start
   pub record TurnRule (seats opening : ℕ) (s : State (Option T) (View E)) : Type 0 where

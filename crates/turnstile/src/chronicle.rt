@@ -9,6 +9,9 @@ pub trait Chronicle: Drop {
     // The entries, oldest first.
     ghost history: { Self → List Self.Entry };
 
+    // What each turn keeps of the value, beside its history.
+    ghost kept: { Self → Type 0 };
+
     /// The number of entries.
     fn length(&self) -> u64
         ensures { result ≡ length (history self.now) };

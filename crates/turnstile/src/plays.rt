@@ -17,7 +17,7 @@ impl<T: Chronicle> Play<Option<T>, View<T::Entry>> for Take {
 pub(crate) struct Look;
 
 impl<T: Chronicle> Play<Option<T>, View<T::Entry>> for Look {
-    ghost then = { looked T.history };
+    ghost then = { looked T.history T.kept };
 }
 
 /// Looking at the length of the history.

@@ -13,7 +13,7 @@ impl<T: Chronicle> TableRule<Option<T>, View<T::Entry>, (u32, Snapshot<T>)> for 
     ghost use Rattle.turnstile.specs.TurnRule.{TurnRule};
     ghost use Rattle.turnstile.specs.Views.{newcomer};
 
-    ghost holds = { λ key. TurnRule T.history key.0 (length (T.history key.1.value)) };
+    ghost holds = { λ key. TurnRule T.history T.kept key.0 (length (T.history key.1.value)) };
 
     ghost first = { λ key. newcomer (T.history key.1.value) key.0 };
 }

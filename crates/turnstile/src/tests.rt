@@ -19,6 +19,8 @@ impl Chronicle for Tally {
 
     ghost history = { λ t. t.entries.items };
 
+    ghost kept = { λ _. Unit {0} };
+
     fn length(&self) -> u64 {
         self.entries.len() as u64
     }

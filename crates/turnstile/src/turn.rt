@@ -20,7 +20,7 @@ impl<T: Chronicle> Turnstile<T> {
         requires own { seat.old.table_id ≡ self.now.table.shared.table_id }
         requires waits { IsWaiting seat.old.me ticket }
         ensures own { seat.new.table_id ≡ seat.old.table_id }
-        ensures got { Got T.history seat.old.me seat.new.me }
+        ensures got { Got T.history T.kept seat.old.me seat.new.me }
     {
         for _ in rt.forever() {
             let found = self.table.shared.load::<Look>(seat, 1);
@@ -39,6 +39,7 @@ impl<T: Chronicle> Turnstile<T> {
         ensures own { seat.new.table_id ≡ seat.old.table_id }
         ensures turn { Entered seat.old.me (T.history result) seat.new.me }
         ensures later { IsPrefix seat.old.me.0.seen (T.history result) }
+        ensures kept { T.kept result }
     {
         let ticket = self.table.shared.fetch_add::<Take>(seat, 0, 1);
         self.wait(rt, seat, ticket);
@@ -64,6 +65,7 @@ impl<T: Chronicle> Turnstile<T> {
         requires own { seat.old.table_id ≡ self.now.table.shared.table_id }
         requires turn { HasTurn seat.old.me }
         requires more { Extends (base_of seat.old.me.0.stage) (T.history value) }
+        requires kept { T.kept value }
         ensures own { seat.new.table_id ≡ seat.old.table_id }
         ensures left { seat.new.me ≡ (after_turn seat.old.me.0 (T.history value), []) }
     {

@@ -27,7 +27,8 @@ impl<T: Chronicle> Turnstile<T> {
     /// A turnstile for so many seats, and a first seat, which counts for all of them: the others are split off from it.
     /// Where there is no memory the value is dropped.
     pub fn new(alloc: Global, value: T, seats: u32) -> Result<(Turnstile<T>, Seat<T>), NoMemory>
-        requires { 0 < seats }
+        requires some { 0 < seats }
+        requires kept { T.kept value }
         ensures own { IfOk result (λ made. made.1.table_id ≡ made.0.table.shared.table_id) }
         ensures seat { IfOk result (λ made. made.1.me ≡ (newcomer (T.history value) seats, [])) }
         ensures seats { IfOk result (λ made. made.0.table.shared.key.0 ≡ seats) }
@@ -82,6 +83,7 @@ impl<T: Chronicle> Turnstile<T> {
         requires all { seat.me.0.share ≡ self.table.shared.key.0 }
         ensures seen { T.history result ≡ seat.me.0.seen }
         ensures mine { (place : ℕ) → times place seat.me.0.mine ≡ once (length (T.history self.table.shared.key.1.value)) (length (T.history result)) place }
+        ensures kept { T.kept result }
         ensures count { length (T.history self.table.shared.key.1.value) + length seat.me.0.mine ≡ length (T.history result) }
     {
         let Turnstile { table } = self;

@@ -1,6 +1,6 @@
 use denote.Param.Send.{sendable}
 use Rattle.cmp_ports.proofs.mem_disk.MemDisk.TheSendSync as MemDiskSent
-use Rattle.clerk_meets.proofs.Sent.{desk_send}
+use Rattle.clerk.proofs.Sent.{desk_send}
 use Rattle.clerk_meets.proofs.enlisting.listed_by_two.Goals as goal
 
 -- a desk over a disk in memory may go to another thread

@@ -1,6 +1,6 @@
 use denote.Param.Send.{sendable}
 use Rattle.cmp_ports.proofs.mem_disk.MemDisk.TheSendSync as MemDiskSent
-use Rattle.clerk_meets.proofs.Sent.{clerk_send}
+use Rattle.clerk.proofs.Sent.{clerk_send}
 use Rattle.clerk_meets.proofs.meeting.meet_at.Goals as goal
 
 -- a clerk over a disk in memory may go to another thread

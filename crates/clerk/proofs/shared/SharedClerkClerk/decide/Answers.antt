@@ -1,22 +1,23 @@
 use Rattle.std.proofs.Common.{◌≡◌, sym, ◌∙◌, ap, subst, arith}
 use Rattle.deal_model.specs.Views.{History}
 use Rattle.deal_table.specs.History.{Begins}
+use Rattle.desk.specs.History.{history_of}
 use Rattle.desk.specs.Verdicts.{Decides}
 use Rattle.desk.proofs.ClerkLemmas.{left_gains}
 use Rattle.clerk.proofs.TurnLemmas.{begins_on, decides_earlier, seen_lawful}
 use Rattle.clerk.proofs.shared.SharedClerkClerk.decide.Goals as goal
 
 pub returns-clause-lawful : goal.returns-clause-lawful
-returns-clause-lawful g c = seen_lawful c.leave.new.seat.me.0.seen c.keep_mark.new.desk.history.items (ap (λ m. m.0.seen) c.leave.ensures.left) c.stands_for_its_disk.ensures.lawful
+returns-clause-lawful g c = seen_lawful c.leave.new.seat.me.0.seen (history_of c.keep_mark.new.desk) (ap (λ m. m.0.seen) c.leave.ensures.left) c.stands_for_its_disk.ensures.lawful
 
 pub returns-clause-grown : goal.returns-clause-grown
 returns-clause-grown g c =
     let seen = c.args.self.now.seat.me.0.seen in
     let desk = c.enter-desk.result in
     let after = c.decide-verdict.new.self in
-    let now_seen : c.leave.new.seat.me.0.seen ≡ after.history.items = ap (λ m. m.0.seen) c.leave.ensures.left ∙ ap (λ h. h.items) c.keep_mark.ensures.history in
-    let gains = left_gains 0 c.args.checked.now c.args.now c.args.words.now desk.history.items desk.doubt c.decide-verdict.result after.history.items after.doubt (omega arith) c.decide-verdict.ensures.ends in
-    subst (λ (l : History). Begins seen l) (sym now_seen) (begins_on seen desk.history.items after.history.items c.enter-desk.ensures.later gains.begun)
+    let now_seen : c.leave.new.seat.me.0.seen ≡ (history_of after) = ap (λ m. m.0.seen) c.leave.ensures.left ∙ ap (λ h. h.items) c.keep_mark.ensures.history in
+    let gains = left_gains 0 c.args.checked.now c.args.now c.args.words.now (history_of desk) desk.doubt c.decide-verdict.result (history_of after) after.doubt (omega arith) c.decide-verdict.ensures.ends in
+    subst (λ (l : History). Begins seen l) (sym now_seen) (begins_on seen (history_of desk) (history_of after) c.enter-desk.ensures.later gains.begun)
 
 pub returns-clause-verdict : goal.returns-clause-verdict
 returns-clause-verdict g c = λ l looked first carries told.
@@ -25,6 +26,6 @@ returns-clause-verdict g c = λ l looked first carries told.
     let after = c.decide-verdict.new.self in
     let k = c.args.checked.now in
     let w = c.args.words.now in
-    let now_seen : c.leave.new.seat.me.0.seen ≡ after.history.items = ap (λ m. m.0.seen) c.leave.ensures.left ∙ ap (λ h. h.items) c.keep_mark.ensures.history in
+    let now_seen : c.leave.new.seat.me.0.seen ≡ (history_of after) = ap (λ m. m.0.seen) c.leave.ensures.left ∙ ap (λ h. h.items) c.keep_mark.ensures.history in
     subst (λ (g' : History). Decides l k seen g' c.args.now w c.decide-verdict.result) (sym now_seen)
-    (decides_earlier l k seen desk.history.items after.history.items c.args.now w c.decide-verdict.result c.enter-desk.ensures.later (c.decide-verdict.ensures.verdict l looked seen first c.enter-desk.ensures.later carries told))
+    (decides_earlier l k seen (history_of desk) (history_of after) c.args.now w c.decide-verdict.result c.enter-desk.ensures.later (c.decide-verdict.ensures.verdict l looked seen first c.enter-desk.ensures.later carries told))

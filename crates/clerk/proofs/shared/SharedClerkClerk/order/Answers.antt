@@ -1,19 +1,20 @@
 use Rattle.std.proofs.Common.{◌≡◌, sym, ◌∙◌, ap, subst, arith}
 use Rattle.deal_model.specs.Views.{History}
 use Rattle.deal_table.specs.History.{Begins}
+use Rattle.desk.specs.History.{history_of}
 use Rattle.desk.specs.Due.{event_time}
 use Rattle.desk.proofs.ClerkLemmas.{ordered_gains}
 use Rattle.clerk.proofs.TurnLemmas.{begins_on, seen_lawful}
 use Rattle.clerk.proofs.shared.SharedClerkClerk.order.Goals as goal
 
 pub returns-clause-lawful : goal.returns-clause-lawful
-returns-clause-lawful g c = seen_lawful c.leave.new.seat.me.0.seen c.keep_mark.new.desk.history.items (ap (λ m. m.0.seen) c.leave.ensures.left) c.stands_for_its_disk.ensures.lawful
+returns-clause-lawful g c = seen_lawful c.leave.new.seat.me.0.seen (history_of c.keep_mark.new.desk) (ap (λ m. m.0.seen) c.leave.ensures.left) c.stands_for_its_disk.ensures.lawful
 
 pub returns-clause-grown : goal.returns-clause-grown
 returns-clause-grown g c =
     let seen = c.args.self.now.seat.me.0.seen in
     let desk = c.enter-desk.result in
     let after = c.order-end.new.self in
-    let now_seen : c.leave.new.seat.me.0.seen ≡ after.history.items = ap (λ m. m.0.seen) c.leave.ensures.left ∙ ap (λ h. h.items) c.keep_mark.ensures.history in
-    let gains = ordered_gains 0 desk.history.items desk.doubt c.args.order.now (event_time desk.history.items c.args.now) c.order-end.result after.history.items after.doubt (omega arith) c.order-end.ensures.ends in
-    subst (λ (l : History). Begins seen l) (sym now_seen) (begins_on seen desk.history.items after.history.items c.enter-desk.ensures.later gains.begun)
+    let now_seen : c.leave.new.seat.me.0.seen ≡ (history_of after) = ap (λ m. m.0.seen) c.leave.ensures.left ∙ ap (λ h. h.items) c.keep_mark.ensures.history in
+    let gains = ordered_gains 0 (history_of desk) desk.doubt c.args.order.now (event_time (history_of desk) c.args.now) c.order-end.result (history_of after) after.doubt (omega arith) c.order-end.ensures.ends in
+    subst (λ (l : History). Begins seen l) (sym now_seen) (begins_on seen (history_of desk) (history_of after) c.enter-desk.ensures.later gains.begun)

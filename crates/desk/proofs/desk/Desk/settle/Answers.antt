@@ -1,6 +1,7 @@
 use Rattle.std.proofs.Common.{not, ap, ◌∙◌}
 use Rattle.journal_core.specs.Journal.{is_doubtful}
 use Rattle.cmp_ports.specs.Moments.{started, weaker}
+use Rattle.desk.specs.History.{history_of}
 use Rattle.desk.specs.Images.{magic, spellings, doubtful, RecoversWith, IsDoubt}
 use Rattle.desk.proofs.Kept.{keeps_out, keeps_images}
 use Rattle.desk.proofs.AddLemmas.{clear_lawful, doubt_left}
@@ -9,38 +10,38 @@ use Rattle.desk.proofs.desk.Desk.settle.Goals as goal
 pub returns-then-is_none-clause-moments : goal.returns-then-is_none-clause-moments
 returns-then-is_none-clause-moments g c =
     let s = c.args.self.now in
-    let images = keeps_images s.history.items s.doubt s.journal (g.D.Disk.images s.disk) (keeps_out s.history.items s.doubt s.journal (g.D.Disk.images s.disk) s.kept) in
-    started g.D.Disk.moment g.D.Disk.left_since s.disk (RecoversWith s.history.items (IsDoubt s.doubt)) (λ image left. images image (g.met.D.Disk.only_now s.disk image left))
+    let images = keeps_images (history_of s) s.doubt s.journal (g.D.Disk.images s.disk) (keeps_out (history_of s) s.doubt s.journal (g.D.Disk.images s.disk) s.kept) in
+    started g.D.Disk.moment g.D.Disk.left_since s.disk (RecoversWith (history_of s) (IsDoubt s.doubt)) (λ image left. images image (g.met.D.Disk.only_now s.disk image left))
 
 pub settle-requires : goal.settle-requires
 settle-requires g c =
     let s = c.args.self.now in
-    (magic, spellings s.history.items, doubtful s.doubt, (keeps_out s.history.items s.doubt s.journal (g.D.Disk.images s.disk) s.kept).0)
+    (magic, spellings (history_of s), doubtful s.doubt, (keeps_out (history_of s) s.doubt s.journal (g.D.Disk.images s.disk) s.kept).0)
 
 pub invariant_of-self : goal.invariant_of-self
 invariant_of-self g c =
     let s = c.args.self.now in
-    let keeps = keeps_out s.history.items s.doubt s.journal (g.D.Disk.images s.disk) s.kept in
+    let keeps = keeps_out (history_of s) s.doubt s.journal (g.D.Disk.images s.disk) s.kept in
     record {
-      kept = ∣ c.in-Ok.ensures.outcome magic (spellings s.history.items) (doubtful s.doubt) keeps.0 ∣₁;
-      lawful = clear_lawful s.history.items s.lawful;
+      kept = ∣ c.in-Ok.ensures.outcome magic (spellings (history_of s)) (doubtful s.doubt) keeps.0 ∣₁;
+      lawful = clear_lawful (history_of s) s.lawful;
     }
 
 pub invariant_of-self-in-Err-1 : goal.invariant_of-self-in-Err-1
 invariant_of-self-in-Err-1 g c =
     let s = c.args.self.now in
-    let keeps = keeps_out s.history.items s.doubt s.journal (g.D.Disk.images s.disk) s.kept in
-    let still = c.in-Err.ensures.outcome magic (spellings s.history.items) (doubtful s.doubt) keeps.0 in
+    let keeps = keeps_out (history_of s) s.doubt s.journal (g.D.Disk.images s.disk) s.kept in
+    let still = c.in-Err.ensures.outcome magic (spellings (history_of s)) (doubtful s.doubt) keeps.0 in
     record { kept = ∣ (still.0, ap is_doubtful still.1 ∙ keeps.1) ∣₁; lawful = s.lawful }
 
 pub returns-in-Ok-clause-moments : goal.returns-in-Ok-clause-moments
 returns-in-Ok-clause-moments g c =
     let s = c.args.self.now in
-    let keeps = keeps_out s.history.items s.doubt s.journal (g.D.Disk.images s.disk) s.kept in
-    weaker g.D.Disk.moment g.D.Disk.left_since _ _ _ (RecoversWith s.history.items (IsDoubt s.doubt)) (c.settle.ensures.moments magic (spellings s.history.items) (doubtful s.doubt) keeps.0) (λ image left. doubt_left s.history.items s.doubt image (c.is_none.ensures ∙ ap (λ b. not b) c.if-is_none.false) left)
+    let keeps = keeps_out (history_of s) s.doubt s.journal (g.D.Disk.images s.disk) s.kept in
+    weaker g.D.Disk.moment g.D.Disk.left_since _ _ _ (RecoversWith (history_of s) (IsDoubt s.doubt)) (c.settle.ensures.moments magic (spellings (history_of s)) (doubtful s.doubt) keeps.0) (λ image left. doubt_left (history_of s) s.doubt image (c.is_none.ensures ∙ ap (λ b. not b) c.if-is_none.false) left)
 
 pub returns-in-Err-clause-moments : goal.returns-in-Err-clause-moments
 returns-in-Err-clause-moments g c =
     let s = c.args.self.now in
-    let keeps = keeps_out s.history.items s.doubt s.journal (g.D.Disk.images s.disk) s.kept in
-    weaker g.D.Disk.moment g.D.Disk.left_since _ _ _ (RecoversWith s.history.items (IsDoubt s.doubt)) (c.settle.ensures.moments magic (spellings s.history.items) (doubtful s.doubt) keeps.0) (λ image left. doubt_left s.history.items s.doubt image (c.is_none.ensures ∙ ap (λ b. not b) c.if-is_none.false) left)
+    let keeps = keeps_out (history_of s) s.doubt s.journal (g.D.Disk.images s.disk) s.kept in
+    weaker g.D.Disk.moment g.D.Disk.left_since _ _ _ (RecoversWith (history_of s) (IsDoubt s.doubt)) (c.settle.ensures.moments magic (spellings (history_of s)) (doubtful s.doubt) keeps.0) (λ image left. doubt_left (history_of s) s.doubt image (c.is_none.ensures ∙ ap (λ b. not b) c.if-is_none.false) left)

@@ -1,8 +1,14 @@
+use Rattle.desk.specs.History.{history_of}
 use Rattle.desk.specs.Due.{event_time}
-use Rattle.desk.proofs.ClerkLemmas.{lapsed_gains}
+use Rattle.desk.proofs.ClerkLemmas.{lapsed_gains, lapsed_memory}
 use Rattle.desk.proofs.sole_clerk.SoleClerkClerk.lapse.Goals as goal
 
 pub returns-clause-mine : goal.returns-clause-mine
 returns-clause-mine g c =
     let s = c.args.self.now in
-    (lapsed_gains s.opening s.desk.now.history.items s.desk.now.doubt (event_time s.desk.now.history.items c.args.now) c.lapse.result c.lapse.new.self.history.items c.lapse.new.self.doubt s.since c.lapse.ensures.ends).mine
+    (lapsed_gains s.opening (history_of s.desk.now) s.desk.now.doubt (event_time (history_of s.desk.now) c.args.now) c.lapse.result (history_of c.lapse.new.self) c.lapse.new.self.doubt s.since c.lapse.ensures.ends).mine
+
+pub returns-clause-memory : goal.returns-clause-memory
+returns-clause-memory g c =
+    let s = c.args.self.now in
+    lapsed_memory (history_of s.desk.now) s.desk.now.doubt (event_time (history_of s.desk.now) c.args.now) c.lapse.result (history_of c.lapse.new.self) c.lapse.new.self.doubt c.lapse.ensures.ends
