@@ -7,7 +7,7 @@ use Rattle.der_base.specs.Element.{element}
 use Rattle.der_base.specs.Reading.{Part}
 use Rattle.der_base.specs.Row.{items_of}
 use Rattle.asn_types.specs.Extension.{ExtensionForm, extension_content, extension_at, is_extensions}
-use Rattle.asn_types.specs.Key.{key_content, key_identifier}
+use Rattle.asn_types.specs.Key.{spki_content, key_identifier}
 use Rattle.asn_types.specs.Name.{common_name}
 use Rattle.asn_types.specs.Oids.{dotted}
 use Rattle.asn_types.specs.Rows.{passes}
@@ -29,7 +29,7 @@ reply_name keys = common_name (keys.name ++ codes " reply")
 
 -- the SubjectPublicKeyInfo of a key of HSS/LMS, which has no parameters (RFC 9802, 4)
 abbrev pub own_spki : List ℕ → List ℕ
-own_spki key = element 0x30 (key_content (record { alg = hss_lms; key = key }))
+own_spki key = element 0x30 (spki_content hss_lms key)
 
 -- ---- extensions
 

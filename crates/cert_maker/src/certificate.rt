@@ -6,7 +6,7 @@ ghost use Rattle.cert_maker.specs.Certificates.{plan_octets, plan_certificate, t
 
 use crate::granted::tbs_of_change;
 use crate::tbs::tbs_of_plan;
-use cmp_ports::Octets;
+use cmp_values::Octets;
 use deal_model::{Brief, Change};
 use desk::Receipt;
 use hss_sig::LeafSigner;

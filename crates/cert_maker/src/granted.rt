@@ -11,7 +11,7 @@ use crate::extensions::{authority_key, signs_messages, subject_key};
 use crate::plans::ca_name;
 use crate::tbs::tbs_of_plan;
 use asn_types::{KEY_USAGE, read_extension, read_extensions};
-use cmp_ports::Octets;
+use cmp_values::Octets;
 use deal_answers::key_of;
 use deal_model::{Brief, Change, Wish};
 use der_base::{DerFault, Element, Items};

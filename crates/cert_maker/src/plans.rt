@@ -5,7 +5,7 @@ ghost use Rattle.cert_maker.specs.Plans.{ca_name, reply_name, own_spki, root_pla
 
 use crate::extensions::{reply_extensions, root_extensions};
 use asn_types::{AlgorithmId, HSS_LMS, write_cn, write_spki};
-use cmp_ports::Octets;
+use cmp_values::Octets;
 use deal_model::Brief;
 use std::alloc::{AllocError, Global};
 use x509_cert::CertPlan;

@@ -2,7 +2,7 @@
 ghost use Rattle.std.specs.Prelude.{◌≡◌, ℕ, ◌+◌, ◌^◌, ◌<◌, ◌≤◌, length, IfOk};
 ghost use Rattle.cert_maker.specs.Certificates.{plan_octets};
 
-use cmp_ports::Octets;
+use cmp_values::Octets;
 use std::alloc::{AllocError, Global};
 use x509_cert::{CertPlan, write_tbs};
 

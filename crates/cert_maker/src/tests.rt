@@ -3,7 +3,7 @@ ghost use Rattle.std.specs.Prelude.{◌≡◌, ◌+◌, ◌≤◌, length, IfSom
 
 use crate::granted::{granted_extensions, granted_tbs};
 use crate::{reply_plan, root_plan, tbs_of_plan};
-use cmp_ports::{Octets, Short};
+use cmp_values::{Octets, Short};
 use deal_model::{Brief, Wish};
 use std::alloc::Global;
 use std::process::Abort;

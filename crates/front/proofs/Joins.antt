@@ -10,7 +10,7 @@ use Rattle.deal_model.specs.Views.{History, founding, settings_of}
 use Rattle.deal_table.proofs.Stays.{settings_stay}
 use Rattle.deal_table.specs.History.{Begins, IsFounded}
 use Rattle.desk.specs.declared.clerk.Clerk.{Ghosts}
-use Rattle.desk.specs.Images.{RecoversWith, IsDoubt, DoubtOr}
+use Rattle.desk.specs.Images.{RecoversWith, IsDoubt, MayCome, DoubtOr}
 use Rattle.front.specs.Clerks.{clerked, IsAlone, IsLawful, Goes}
 use Rattle.front.specs.Courses.{IsAsked}
 use Rattle.front.specs.Fronts.{HasSettings}
@@ -63,8 +63,8 @@ module _ {K : Type 0} (g : Ghosts K) where
     lawful = a.lawful;
     held = a.held;
     later = omega (arith, a.faults);
-    doubt = λ alone. doubted (g.doubt new) (DoubtOr (g.doubt old) Own) (λ c e. inl (sym a.doubt ∙ e));
-    moments = λ alone. weaker g.moment g.left_since old new _ _ a.moments (weaker_images (g.seen old) (g.seen old) (IsDoubt (g.doubt old)) (DoubtOr (g.doubt old) Own) refl (λ c d. inl d));
+    doubt = λ alone. doubted (g.doubt new) (DoubtOr (g.doubt old) (MayCome Own (g.seen old))) (λ c e. inl (sym a.doubt ∙ e));
+    moments = λ alone. weaker g.moment g.left_since old new _ _ a.moments (weaker_images (g.seen old) (g.seen old) (IsDoubt (g.doubt old)) (DoubtOr (g.doubt old) (MayCome Own (g.seen old))) refl (λ c d. inl d));
   }
 
   pub asked_nothing : (old : K) → IsLawful (clerked g old) → Every (g.left_since old (g.moment old)) (RecoversWith (g.seen old) (IsDoubt (g.doubt old))) → IsAsked g old old
@@ -86,14 +86,14 @@ module _ {K : Type 0} (g : Ghosts K) where
     lawful = second.lawful;
     held = second.held ∙ first.held;
     later = omega (arith, first.later, second.later);
-    doubt = λ alone. doubted (g.doubt new) (DoubtOr (g.doubt old) Own) (λ c e. still alone c (in_doubt (g.doubt new) _ c (second.doubt (alone_on old mid first.held alone)) e));
+    doubt = λ alone. doubted (g.doubt new) (DoubtOr (g.doubt old) (MayCome Own (g.seen old))) (λ c e. still alone c (in_doubt (g.doubt new) _ c (second.doubt (alone_on old mid first.held alone)) e));
     moments = λ alone. joins g.moment g.left_since old mid new _ (first.moments alone)
         (weaker g.moment g.left_since mid new _ _ (second.moments (alone_on old mid first.held alone))
-        (weaker_images (g.seen old) (g.seen mid) (DoubtOr (g.doubt mid) Own) (DoubtOr (g.doubt old) Own) (same alone) (still alone)));
+        (weaker_images (g.seen old) (g.seen mid) (DoubtOr (g.doubt mid) (MayCome Own (g.seen mid))) (DoubtOr (g.doubt old) (MayCome Own (g.seen old))) (same alone) (still alone)));
   }
     where
-      still : IsAlone (clerked g old) → (c : Change) → DoubtOr (g.doubt mid) Own c → DoubtOr (g.doubt old) Own c
-      still alone c d = ⊎_elim (λ e. in_doubt (g.doubt mid) _ c (first.doubt alone) e) (λ own. inr own) d
+      still : IsAlone (clerked g old) → (c : Change) → DoubtOr (g.doubt mid) (MayCome Own (g.seen mid)) c → DoubtOr (g.doubt old) (MayCome Own (g.seen old)) c
+      still alone c d = ⊎_elim (λ e. in_doubt (g.doubt mid) _ c (first.doubt alone) e) (λ own. inr (subst (λ (h : History). MayCome Own h c) (same alone) own)) d
 
   -- by another word for the change
   pub goes_as : (old new : K) (Own Other : Change → Type 0) → Goes g old new Own → (IsAlone (clerked g old) → (c : Change) → Own c → Other c) → Goes g old new Other
@@ -102,9 +102,9 @@ module _ {K : Type 0} (g : Ghosts K) where
     lawful = goes.lawful;
     held = goes.held;
     later = goes.later;
-    doubt = λ alone. doubted (g.doubt new) (DoubtOr (g.doubt old) Other) (λ c e. other alone c (in_doubt (g.doubt new) _ c (goes.doubt alone) e));
-    moments = λ alone. weaker g.moment g.left_since old new _ _ (goes.moments alone) (weaker_images (g.seen old) (g.seen old) (DoubtOr (g.doubt old) Own) (DoubtOr (g.doubt old) Other) refl (other alone));
+    doubt = λ alone. doubted (g.doubt new) (DoubtOr (g.doubt old) (MayCome Other (g.seen old))) (λ c e. other alone c (in_doubt (g.doubt new) _ c (goes.doubt alone) e));
+    moments = λ alone. weaker g.moment g.left_since old new _ _ (goes.moments alone) (weaker_images (g.seen old) (g.seen old) (DoubtOr (g.doubt old) (MayCome Own (g.seen old))) (DoubtOr (g.doubt old) (MayCome Other (g.seen old))) refl (other alone));
   }
     where
-      other : IsAlone (clerked g old) → (c : Change) → DoubtOr (g.doubt old) Own c → DoubtOr (g.doubt old) Other c
-      other alone c d = ⊎_elim (λ e. inl e) (λ own. inr (to alone c own)) d
+      other : IsAlone (clerked g old) → (c : Change) → DoubtOr (g.doubt old) (MayCome Own (g.seen old)) c → DoubtOr (g.doubt old) (MayCome Other (g.seen old)) c
+      other alone c d = ⊎_elim (λ e. inl e) (λ own. inr (to alone c own.0, own.1)) d

@@ -12,7 +12,7 @@ use Rattle.intake.specs.Intake.{IsStopped, IsRequest}
 use Rattle.intake.specs.Letter.{IsReading, Checks, AreChecks, facts_of, inside_of, IsLetter}
 use Rattle.intake.proofs.Limits.{head_within}
 use Rattle.intake.specs.declared.request.Request.{Request}
-use Rattle.cmp_ports.specs.declared.fail_info.FailInfo.{FailInfo}
+use Rattle.cmp_values.specs.declared.fail_info.FailInfo.{FailInfo}
 use Rattle.front.specs.Courses.{AreShort}
 use Rattle.front.proofs.Decided.{Known, none_known, protection_known, le_known}
 

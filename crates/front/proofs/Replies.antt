@@ -1,11 +1,11 @@
 -- What a reply says of the history in which its message was decided.
-use Rattle.std.proofs.Common.{◌≡◌, ℕ, suc, ◌<◌, ◌≤◌, Bool, true, false, List, [], ◌∷◌, ◌++◌, length, replicate, Option, Some, None, refl, sym, ap, subst, ◌∙◌, inl, inr, append_assoc, length-append, arith}
+use Rattle.std.proofs.Common.{◌≡◌, ℕ, suc, ◌<◌, ◌≤◌, ◌⊎◌, Bool, true, false, List, [], ◌∷◌, ◌++◌, length, replicate, Option, Some, None, refl, sym, ap, subst, ◌∙◌, inl, inr, ⊎_elim, append_assoc, length-append, arith}
 use Rattle.std.specs.Prelude.{is_some, IfSome}
 use Rattle.std.proofs.lemmas.List.{append-nil}
 use Rattle.std.proofs.lemmas.Option.{same_Some}
 use Rattle.cmp_ports.specs.Faults.{Rose}
-use Rattle.cmp_ports.specs.declared.fail_info.FailInfo.{FailInfo}
-use Rattle.cmp_ports.specs.declared.fail_info.FailInfo.TheVariants.{SystemFailure}
+use Rattle.cmp_values.specs.declared.fail_info.FailInfo.{FailInfo}
+use Rattle.cmp_values.specs.declared.fail_info.FailInfo.TheVariants.{SystemFailure}
 use Rattle.cmp_ports.specs.declared.note.Answered.{Answered}
 use Rattle.cmp_ports.specs.declared.note.Note.{Note}
 use Rattle.cmp_ports.specs.declared.note.Outcome.TheVariants as outcome
@@ -42,7 +42,7 @@ use Rattle.reply_maker.proofs.InForceLemmas.{in_force_out, grant_in_force_out, f
 use Rattle.front.specs.Answers.{ForLetter, IsDecision, addressed, IsReplyAt}
 use Rattle.front.specs.Clerks.{Clerked, clerked, IsAlone, IsLawful}
 use Rattle.front.specs.Courses.{IsAsked, IsRuled, echo_in, IsFailed, IsRefused, IsTurned, IsSealed, IsSealable, IsFinished, IsResponse, IsHanded, failed_of}
-use Rattle.front.specs.Ends.{IsReplyFor, IsReplied, IsUnanswered, IsIdle, IsEnd, failed_in}
+use Rattle.front.specs.Ends.{IsClear, IsReplyFor, IsReplied, IsUnanswered, IsIdle, IsEnd, failed_in}
 use Rattle.front.specs.Fronts.{HasSettings}
 use Rattle.front.specs.declared.reply.Reply.{Reply}
 use Rattle.front.proofs.Decided.{Known, same_known, bytes_known, le_known}
@@ -180,9 +180,17 @@ echo_is : (k : Replier) (b : List ℕ) (r : Request) → IsRequest b r → (oute
 echo_is k b r asks true = λ l letter. asks.outer (certificate_hash k) l letter
 echo_is k b r asks false = λ l letter. asks.inner (certificate_hash k) l letter
 
+-- what a clerk is clear of that was asked
+clear_of_asked : {K : Type 0} (g : Ghosts K) (old new : K) → IsAsked g old new → IsClear (clerked g old) (clerked g new)
+clear_of_asked g old new asked = record { faults = asked.faults; doubt = λ alone. inr asked.doubt }
+
 module _ {K : Type 0} (g : Ghosts K) (k : Replier) (b : List ℕ) (old mid new : K) (now : ℕ) (w : List ℕ) (r : Request) (asks : IsRequest b r) (look : Look) (is_look : look ≡ look_of (g.seen mid) r.ask now) (asked : IsAsked g old mid) where
   mid_alone : IsAlone (clerked g old) → IsAlone (clerked g mid)
   mid_alone alone = ap (λ h. h.table) asked.held ∙ alone
+
+  -- after a decision that no failure of the disk ends
+  clear_by : g.faults new ≡ g.faults mid → (IsAlone (clerked g mid) → (g.doubt new ≡ None) ⊎ (g.doubt new ≡ g.doubt mid)) → IsClear (clerked g old) (clerked g new)
+  clear_by faults doubt = record { faults = faults ∙ asked.faults; doubt = λ alone. ⊎_elim (λ none. inl none) (λ same. inr (same ∙ asked.doubt)) (doubt (mid_alone alone)) }
 
   done : (c : Checked) (receipt : Receipted) (reply : Reply) → IsRuled g k b mid new now w c (verdict.Done receipt) → IsSealed k receipt receipt.place (time_of_change receipt.change) w outcome.Done reply → IsResponse k b (clerked g old) (clerked g new) now (Some w) (Some reply)
   done c receipt reply rules seals = noted k b (clerked g old) (clerked g new) now w _ reply seals.note (record {
@@ -200,6 +208,8 @@ module _ {K : Type 0} (g : Ghosts K) (k : Replier) (b : List ℕ) (old mid new :
     };
     mine = rules.mine ∙ ap (λ (x : List ℕ). x ++ receipt.place ∷ []) asked.mine;
     alone = λ alone. ((fronts it.before (g.seen mid) it.change receipt.change (sym it.grown ∙ rules.alone (mid_alone alone))).0 ∙ asked.alone alone, it.grown);
+    clear = clear_by (rules.kept (λ e. cc e)) (λ alone. inl (rules.clears alone));
+    settled = λ alone. rules.clears (mid_alone alone);
   })
     where
       it : IsBehind k b (g.seen mid) (g.seen new) now w receipt
@@ -211,6 +221,8 @@ module _ {K : Type 0} (g : Ghosts K) (k : Replier) (b : List ℕ) (old mid new :
     made = record { before = it.before; change = it.change; begun = begins_on (g.seen old) (g.seen mid) it.before asked.grown it.begun; upto = begins_so (sym it.grown); decided = it.decided };
     mine = rules.mine ∙ ap (λ (x : List ℕ). x ++ receipt.place ∷ []) asked.mine ∙ ap (λ (n : ℕ). g.mine old ++ n ∷ []) (it.place ∙ ap length it.grown);
     alone = λ alone. ((fronts it.before (g.seen mid) it.change receipt.change (sym it.grown ∙ rules.alone (mid_alone alone))).0 ∙ asked.alone alone, it.grown);
+    clear = clear_by (rules.kept (λ e. cc e)) (λ alone. inl (rules.clears alone));
+    settled = λ alone. rules.clears (mid_alone alone);
   }
     where
       it : IsBehind k b (g.seen mid) (g.seen new) now w receipt
@@ -232,6 +244,8 @@ module _ {K : Type 0} (g : Ghosts K) (k : Replier) (b : List ℕ) (old mid new :
     };
     mine = rules.mine ∙ ap (λ (x : List ℕ). x ++ []) asked.mine;
     alone = λ alone. (rules.alone (mid_alone alone) ∙ asked.alone alone, refl);
+    clear = clear_by (rules.kept (λ e. cc e)) (λ alone. inl (rules.clears alone));
+    settled = λ alone. rules.clears (mid_alone alone);
   })
 
   refused : (c : Checked) (fail : FailInfo) (place time : ℕ) (is_guarded to_outer : Bool) (reply : Reply) → IsRuled g k b mid new now w c (verdict.Refused fail place time is_guarded to_outer) → IsRefused k r place time w fail (carried_to c to_outer is_guarded) reply
@@ -253,6 +267,8 @@ module _ {K : Type 0} (g : Ghosts K) (k : Replier) (b : List ℕ) (old mid new :
     };
     mine = rules.mine ∙ ap (λ (x : List ℕ). x ++ []) asked.mine;
     alone = λ alone. (rules.alone (mid_alone alone) ∙ asked.alone alone, refl);
+    clear = clear_by (rules.kept (λ e. cc e)) (λ alone. inl (rules.clears alone));
+    settled = λ alone. tt;
   })
     where
       moment : time ≡ event_time (g.seen new) now
@@ -277,6 +293,7 @@ module _ {K : Type 0} (g : Ghosts K) (k : Replier) (b : List ℕ) (old mid new :
     };
     words = refl;
     rose = subst (λ (n : ℕ). Rose n (g.faults new)) asked.faults (rules.fault refl);
+    doubtful = λ alone. rules.clears (mid_alone alone);
   })
 
   -- by its verdict
@@ -288,16 +305,16 @@ module _ {K : Type 0} (g : Ghosts K) (k : Replier) (b : List ℕ) (old mid new :
   replied c verdict.DiskFault reply rules is = disk_down c reply rules is
   replied c verdict.NoMemory reply rules is = absurd is
 
-  idle : (v : Verdict) → g.mine new ≡ g.mine mid ++ [] → (IsAlone (clerked g mid) → g.seen new ≡ g.seen mid) → IsIdle (clerked g old) (clerked g new)
-  idle v mine alone = record { mine = mine ∙ append-nil (g.mine mid) ∙ asked.mine; alone = λ a. alone (mid_alone a) ∙ asked.alone a }
+  idle : g.mine new ≡ g.mine mid ++ [] → (IsAlone (clerked g mid) → g.seen new ≡ g.seen mid) → IsClear (clerked g old) (clerked g new) ⊎ Rose (g.faults old) (g.faults new) → IsIdle (clerked g old) (clerked g new)
+  idle mine alone clear = record { mine = mine ∙ append-nil (g.mine mid) ∙ asked.mine; alone = λ a. alone (mid_alone a) ∙ asked.alone a; clear = clear }
 
   pub spent : (c : Checked) (v : Verdict) → IsRuled g k b mid new now w c v → IsResponse k b (clerked g old) (clerked g new) now (Some w) None
   spent c (verdict.Done receipt) rules = inr (done_spent c receipt rules)
-  spent c (verdict.Again receipt place time) rules = inl (idle verdict.NoMemory rules.mine rules.alone)
-  spent c (verdict.Refused fail place time is_guarded to_outer) rules = inl (idle verdict.NoMemory rules.mine rules.alone)
-  spent c (verdict.Stale place) rules = inl (idle verdict.NoMemory rules.mine rules.alone)
-  spent c verdict.DiskFault rules = inl (idle verdict.NoMemory rules.mine rules.alone)
-  spent c verdict.NoMemory rules = inl (idle verdict.NoMemory rules.mine rules.alone)
+  spent c (verdict.Again receipt place time) rules = inl (idle rules.mine rules.alone (inl (clear_by (rules.kept (λ e. cc e)) (λ alone. inl (rules.clears alone)))))
+  spent c (verdict.Refused fail place time is_guarded to_outer) rules = inl (idle rules.mine rules.alone (inl (clear_by (rules.kept (λ e. cc e)) (λ alone. inl (rules.clears alone)))))
+  spent c (verdict.Stale place) rules = inl (idle rules.mine rules.alone (inl (clear_by (rules.kept (λ e. cc e)) (λ alone. inl (rules.clears alone)))))
+  spent c verdict.DiskFault rules = inl (idle rules.mine rules.alone (inr (subst (λ (n : ℕ). Rose n (g.faults new)) asked.faults (rules.fault refl))))
+  spent c verdict.NoMemory rules = inl (idle rules.mine rules.alone (inl (clear_by (rules.kept (λ e. cc e)) rules.clears)))
 
 -- ---- refusals without a decision
 
@@ -322,6 +339,8 @@ module _ {K : Type 0} (g : Ghosts K) (k : Replier) (b : List ℕ) (old new : K) 
     };
     mine = asked.mine ∙ sym (append-nil (g.mine old));
     alone = λ alone. (asked.alone alone, refl);
+    clear = clear_of_asked g old new asked;
+    settled = λ alone. tt;
   })
 
   pub turned : (r : Request) (look : Look) (u : Unfit) (reply : Reply) → IsRequest b r → IsFounded (g.seen new) → look ≡ look_of (g.seen new) r.ask now → IsUnfit b r.ask look u → IsTurned k r look w u reply
@@ -344,10 +363,10 @@ module _ {K : Type 0} (g : Ghosts K) (k : Replier) (b : List ℕ) (old new : K) 
 
   -- memory ran out after the look
   pub idle_spent : IsResponse k b (clerked g old) (clerked g new) now (Some w) None
-  idle_spent = inl (record { mine = asked.mine; alone = asked.alone })
+  idle_spent = inl (record { mine = asked.mine; alone = asked.alone; clear = inl (clear_of_asked g old new asked) })
 
   pub idle_down : IsResponse k b (clerked g old) (clerked g new) now None None
-  idle_down = record { mine = asked.mine; alone = asked.alone }
+  idle_down = record { mine = asked.mine; alone = asked.alone; clear = inl (clear_of_asked g old new asked) }
 
 -- no words could be drawn
 pub entropy_down : {K : Type 0} (g : Ghosts K) (k : Replier) (b : List ℕ) (old new : K) (now : ℕ) (ask : Ask) (look : Look) (echo : Echo) (reply : Reply) → IsAsked g old new → look ≡ look_of (g.seen new) ask now
@@ -369,6 +388,7 @@ entropy_down g k b old new now ask look echo reply asked is_look repeats is = re
     alone = λ alone. (asked.alone alone, asked.alone alone);
   };
   words = ap (λ (n : Note). n.words) is.note;
+  clear = clear_of_asked g old new asked;
 }
 
 -- ---- the end
@@ -395,8 +415,8 @@ granted_is clerk tid r lawful e = (grant_in_force_out clerk.seen tid r lawful e)
 
 -- a clerk that was asked, and no reply
 pub idle_response : {K : Type 0} (g : Ghosts K) (k : Replier) (b : List ℕ) (old new : K) (now : ℕ) (drawn : Option (List ℕ)) → IsAsked g old new → IsResponse k b (clerked g old) (clerked g new) now drawn None
-idle_response g k b old new now (Some w) asked = inl (record { mine = asked.mine; alone = asked.alone })
-idle_response g k b old new now None asked = record { mine = asked.mine; alone = asked.alone }
+idle_response g k b old new now (Some w) asked = inl (record { mine = asked.mine; alone = asked.alone; clear = inl (clear_of_asked g old new asked) })
+idle_response g k b old new now None asked = record { mine = asked.mine; alone = asked.alone; clear = inl (clear_of_asked g old new asked) }
 
 -- ---- with or without memory
 

@@ -1,6 +1,6 @@
 -- How a message that was checked is decided, whatever letter its octets are.
-use Rattle.std.proofs.Common.{◌≡◌, ℕ, ◌≤◌, Bool, true, false, List, [], ◌∷◌, ◌++◌, Option, Some, None, refl, sym, ap, subst, ◌∙◌, inl, inr, arith}
-use Rattle.std.specs.Prelude.{is_some}
+use Rattle.std.proofs.Common.{◌≡◌, ℕ, ◌≤◌, ◌⊎◌, Bool, true, false, List, [], ◌∷◌, ◌++◌, Option, Some, None, refl, sym, ap, subst, ◌∙◌, inl, inr, ⊎_elim, arith}
+use Rattle.std.specs.Prelude.{is_some, IsSome}
 use Rattle.std.specs.Str.{bytes_eq}
 use Rattle.std.proofs.lemmas.List.{append-nil}
 use Rattle.std.proofs.lemmas.Option.{none-some}
@@ -23,13 +23,14 @@ use Rattle.desk.specs.declared.clerk.Clerk.{Ghosts}
 use Rattle.desk.specs.declared.verdict.Verdict.{Verdict}
 use Rattle.desk.specs.declared.verdict.Verdict.TheVariants.{Done, Again, Refused, Stale, DiskFault, NoMemory}
 use Rattle.desk.specs.Clerks.{decided_place, IsDecidedAlone}
-use Rattle.desk.specs.Verdicts.{Decides, LeftMakes}
+use Rattle.desk.specs.Verdicts.{Decides, LeftMakes, IsLeft}
+use Rattle.desk.proofs.ClerkLemmas.{left_alone}
 use Rattle.intake.specs.Fit as fit
 use Rattle.intake.specs.Fit.{AreDigests, IsHashTold, IsCompared, ComparesHash}
 use Rattle.reply_maker.specs.Replies.{Replier, certificate_hash}
 use Rattle.front.specs.Answers.{ForLetter, addressed, IsOwn}
 use Rattle.front.specs.Clerks.{Goes}
-use Rattle.front.specs.Courses.{IsAsked, IsDecided, IsCarried, told_by, told_of, IsTellable, is_stale, IsRuled}
+use Rattle.front.specs.Courses.{IsAsked, IsDecided, IsCarried, told_by, told_of, IsTellable, is_stale, IsClearBy, IsRuled}
 use Rattle.front.proofs.Decided.{Known}
 use Rattle.front.proofs.Joins.{begins_itself, begins_on, asked_goes, goes_on, goes_as}
 use Rattle.front.proofs.Letters.{by_letter}
@@ -52,7 +53,7 @@ told_so P k c (Confirm id_ok hash alg count status) None (Some r) same new = new
 told_so P k c (Confirm id_ok hash alg count status) None None same new = same
 told_so P k c (Confirm id_ok hash alg count status) (Some told) found same new = same
 told_so P k c Repeat told found same new = same
-told_so P k c (Enrol body wish old) told found same new = same
+told_so P k c (Enrol body wish) told found same new = same
 told_so P k c (Poll ids_ok) told found same new = same
 told_so P k c (Withdraw serial reason) told found same new = same
 
@@ -97,7 +98,7 @@ told_open k c (Confirm id_ok hash alg count status) None (Some r) same is some n
 told_open k c (Confirm id_ok hash alg count status) None None same is some none = let e : false ≡ true = some in cc
 told_open k c (Confirm id_ok hash alg count status) (Some t) found same is some none = none-some t (sym none ∙ sym same)
 told_open k c Repeat told found same is some none = let e : false ≡ true = is in cc
-told_open k c (Enrol body wish old) told found same is some none = let e : false ≡ true = is in cc
+told_open k c (Enrol body wish) told found same is some none = let e : false ≡ true = is in cc
 told_open k c (Poll ids_ok) told found same is some none = let e : false ≡ true = is in cc
 told_open k c (Withdraw serial reason) told found same is some none = let e : false ≡ true = is in cc
 
@@ -126,6 +127,33 @@ alone_since old mid new (Refused fail place time is_guarded to_outer) e d = d �
 alone_since old mid new (Stale place) e d = d ∙ e
 alone_since old mid new DiskFault e d = d ∙ e
 alone_since old mid new NoMemory e d = d ∙ e
+
+-- what a clerk leaves in doubt that is alone
+some_doubt : (o : Option Change) (c : Change) → o ≡ Some c → IsSome o
+some_doubt None c e = absurd (none-some c e)
+some_doubt (Some x) c e = refl
+
+fault_doubt : (P : Change → Type 0) (d e : Option Change) → ((c : Change) × P c × (e ≡ Some c)) ⊎ (IsSome d × (e ≡ d)) → IsSome e
+fault_doubt P d e (inl (c, makes, own)) = some_doubt e c own
+fault_doubt P d e (inr (some, same)) = subst (λ (o : Option Change). IsSome o) (sym same) some
+
+left_clears : (c : Checked) (now : ℕ) (w : List ℕ) (h : History) (d : Option Change) (v : Verdict) (g : History) (e : Option Change) → IsLeft c now w h d v g e → IsClearBy d e v
+left_clears c now w h d (Done r) g e is = is.2
+left_clears c now w h d (Again r place time) g e is = is.3.1
+left_clears c now w h d (Refused fail place time is_guarded to_outer) g e is = is.2.1
+left_clears c now w h d (Stale place) g e is = is.1.1
+left_clears c now w h d DiskFault g e is = fault_doubt (LeftMakes h c now w) d e is.1
+left_clears c now w h d NoMemory g e is = inr is.1
+
+-- .. after others that left the same in doubt, or nothing
+clears_since : (d m e : Option Change) (v : Verdict) → (m ≡ None) ⊎ (m ≡ d) → IsClearBy m e v → IsClearBy d e v
+clears_since d m e (Done r) first is = is
+clears_since d m e (Again r place time) first is = is
+clears_since d m e (Refused fail place time is_guarded to_outer) first is = is
+clears_since d m e (Stale place) first is = is
+clears_since d m e DiskFault first is = is
+clears_since d m e NoMemory (inl none) is = ⊎_elim (λ n. inl n) (λ same. inl (same ∙ none)) is
+clears_since d m e NoMemory (inr kept) is = ⊎_elim (λ n. inl n) (λ same. inr (same ∙ kept)) is
 
 -- a verdict that certHash has to be compared says so of what can be told
 stale_open : (k : Replier) (b : List ℕ) (old new : History) (now : ℕ) (w : List ℕ) (c : Checked) (v : Verdict) → ForLetter k b (λ l. Decides l c old new now w v) → is_stale v ≡ true → IsTellable new c
@@ -174,7 +202,11 @@ module _ {K : Type 0} (g : Ghosts K) (k : Replier) (b : List ℕ) where
     timely = d.timely;
     mine = d.mine ∙ ap (λ (x : List ℕ). x ++ decided_place v) asked.mine;
     fault = λ e. subst (λ (n : ℕ). Rose n (g.faults new)) asked.faults (d.fault e);
-    alone = λ alone. alone_since (g.seen old) (g.seen mid) (g.seen new) v (asked.alone alone) (d.alone (ap (λ h. h.table) asked.held ∙ alone));
+    kept = λ other. d.kept other ∙ asked.faults;
+    alone = λ alone. alone_since (g.seen old) (g.seen mid) (g.seen new) v (asked.alone alone)
+        (left_alone t now w (g.seen mid) (g.doubt mid) v (g.seen new) (g.doubt new) (d.alone (ap (λ h. h.table) asked.held ∙ alone)));
+    clears = λ alone. clears_since (g.doubt old) (g.doubt mid) (g.doubt new) v (inr asked.doubt)
+        (left_clears t now w (g.seen mid) (g.doubt mid) v (g.seen new) (g.doubt new) (d.alone (ap (λ h. h.table) asked.held ∙ alone)));
     stale = stale_open k b (g.seen mid) (g.seen new) now w t v by_mid;
   }
     where
@@ -216,7 +248,9 @@ module _ {K : Type 0} (g : Ghosts K) (k : Replier) (b : List ℕ) where
     timely = tt;
     mine = asked.mine ∙ sym (append-nil (g.mine old));
     fault = λ e. absurd (cc e);
+    kept = λ other. asked.faults;
     alone = asked.alone;
+    clears = λ alone. inr asked.doubt;
     stale = λ e. absurd (let f : false ≡ true = e in cc);
   }
 
@@ -236,7 +270,9 @@ module _ {K : Type 0} (g : Ghosts K) (k : Replier) (b : List ℕ) where
     timely = second.timely;
     mine = second.mine ∙ ap (λ (x : List ℕ). x ++ decided_place v) (first.mine ∙ append-nil (g.mine old));
     fault = λ e. rose_since (g.faults old) (g.faults mid) (g.faults new) first.goes.later (second.fault e);
+    kept = λ other. second.kept other ∙ first.kept (λ e. cc e);
     alone = λ alone. alone_since (g.seen old) (g.seen mid) (g.seen new) v (first.alone alone) (second.alone (ap (λ h. h.table) first.goes.held ∙ alone));
+    clears = λ alone. clears_since (g.doubt old) (g.doubt mid) (g.doubt new) v (inl (first.clears alone)) (second.clears (ap (λ h. h.table) first.goes.held ∙ alone));
     stale = second.stale;
   }
 

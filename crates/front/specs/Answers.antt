@@ -2,7 +2,7 @@
 --
 -- In each word k is what the authority replies with, b the octets, now the clock's reading and w the words that were drawn.
 use Rattle.std.specs.Prelude.{◌≡◌, ℕ, ◌&&◌, List, [], ◌∷◌, ◌++◌, length, Some, None}
-use Rattle.cmp_ports.specs.declared.fail_info.FailInfo.TheVariants.{SystemFailure}
+use Rattle.cmp_values.specs.declared.fail_info.FailInfo.TheVariants.{SystemFailure}
 use Rattle.cmp_ports.specs.declared.note.Note.{Note}
 use Rattle.cmp_ports.specs.declared.note.Outcome.{Outcome}
 use Rattle.cmp_ports.specs.declared.note.Outcome.TheVariants as outcome

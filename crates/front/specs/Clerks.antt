@@ -6,7 +6,7 @@ use Rattle.deal_changes.specs.declared.change.Change.{Change}
 use Rattle.deal_model.specs.Rules.{Allowed, Legal}
 use Rattle.deal_model.specs.Views.{History}
 use Rattle.deal_table.specs.History.{Begins}
-use Rattle.desk.specs.Images.{DoubtOr, RecoversWith}
+use Rattle.desk.specs.Images.{MayCome, DoubtOr, RecoversWith}
 use Rattle.desk.specs.declared.clerk.Clerk.{Ghosts}
 
 -- What no call of a clerk changes: by which loans what was lent to it and its disk are held; the turnstile at which it has its seat,
@@ -38,11 +38,12 @@ abbrev pub IsLawful : Clerked → Type 0
 IsLawful k = ∥ Legal k.seen × IfSome k.doubt (Allowed k.seen) ∥₁
 
 -- How an answer leaves a clerk: what it has seen grew to a legal history. Where it is alone, only the change that was in doubt before or
--- such a change may be in doubt afterwards, and a stop at any moment leaves what it had seen, with one of these behind it or alone.
+-- such a change that may come next may be in doubt afterwards, and a stop at any moment leaves what it had seen, with one of these behind
+-- it or alone.
 pub record Goes {K : Type 0} (g : Ghosts K) (old new : K) (Own : Change → Type 0) : Type 0 where
   pub grown : Begins (g.seen old) (g.seen new)
   pub lawful : IsLawful (clerked g new)
   pub held : (clerked g new).held ≡ (clerked g old).held
   pub later : g.faults old ≤ g.faults new
-  pub doubt : IsAlone (clerked g old) → IfSome (g.doubt new) (DoubtOr (g.doubt old) Own)
-  pub moments : IsAlone (clerked g old) → LeavesOnly g.moment g.left_since old new (RecoversWith (g.seen old) (DoubtOr (g.doubt old) Own))
+  pub doubt : IsAlone (clerked g old) → IfSome (g.doubt new) (DoubtOr (g.doubt old) (MayCome Own (g.seen old)))
+  pub moments : IsAlone (clerked g old) → LeavesOnly g.moment g.left_since old new (RecoversWith (g.seen old) (DoubtOr (g.doubt old) (MayCome Own (g.seen old))))

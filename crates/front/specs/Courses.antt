@@ -1,14 +1,15 @@
 -- What the parts of an answer promise each other. No clause of a public call reads these words, so a reader can skip them.
-use Rattle.std.specs.Prelude.{◌≡◌, ℕ, ◌≤◌, Bool, true, false, is_some, List, [], ◌++◌, length, Option, Some, None, IfSome, if◌then◌else◌}
+use Rattle.std.specs.Prelude.{◌≡◌, ◌≢◌, ◌⊎◌, ℕ, ◌≤◌, Bool, true, false, is_some, List, [], ◌++◌, length, Option, Some, None, IfSome, IsSome, if◌then◌else◌}
 use Rattle.std.specs.Str.{bytes_eq}
 use Rattle.cmp_ports.specs.Disk.{LeavesOnly}
 use Rattle.cmp_ports.specs.Faults.{Rose}
-use Rattle.cmp_ports.specs.declared.fail_info.FailInfo.{FailInfo}
-use Rattle.cmp_ports.specs.declared.fail_info.FailInfo.TheVariants.{SystemFailure}
+use Rattle.cmp_values.specs.declared.fail_info.FailInfo.{FailInfo}
+use Rattle.cmp_values.specs.declared.fail_info.FailInfo.TheVariants.{SystemFailure}
 use Rattle.cmp_ports.specs.declared.note.Answered.{Answered}
 use Rattle.cmp_ports.specs.declared.note.Answered.TheVariants as answered
 use Rattle.cmp_ports.specs.declared.note.Outcome.{Outcome}
 use Rattle.cmp_ports.specs.declared.note.Outcome.TheVariants as outcome
+use Rattle.deal_changes.specs.declared.change.Change.{Change}
 use Rattle.deal_changes.specs.declared.change.Settings.{Settings}
 use Rattle.deal_changes.specs.Times.{time_of_change}
 use Rattle.deal_model.specs.declared.asking.Checked.{Checked}
@@ -26,8 +27,8 @@ use Rattle.desk.specs.declared.clerk.Clerk.{Ghosts}
 use Rattle.desk.specs.declared.verdict.Verdict.{Verdict}
 use Rattle.desk.specs.declared.verdict.Verdict.TheVariants as verdict
 use Rattle.desk.specs.Clerks.{decided_place, IsDecidedAlone}
-use Rattle.desk.specs.Images.{RecoversWith, IsDoubt, DoubtOr}
-use Rattle.desk.specs.Verdicts.{Decides, IsInTime, LeftMakes}
+use Rattle.desk.specs.Images.{RecoversWith, IsDoubt, MayCome, DoubtOr}
+use Rattle.desk.specs.Verdicts.{Decides, IsInTime, LeftMakes, IsLeft}
 use Rattle.intake.specs.Fit.{ComparesHash}
 use Rattle.intake.specs.declared.request.Request.{Request}
 use Rattle.intake.specs.declared.unfit.Unfit.{Unfit}
@@ -63,10 +64,11 @@ pub record IsDecided {K : Type 0} (g : Ghosts K) (old new : K) (c : Checked) (no
   pub timely : IsInTime v
   pub mine : g.mine new ≡ g.mine old ++ decided_place v
   pub fault : v ≡ verdict.DiskFault → Rose (g.faults old) (g.faults new)
+  pub kept : v ≢ verdict.DiskFault → g.faults new ≡ g.faults old
   pub later : g.faults old ≤ g.faults new
-  pub alone : IsAlone (clerked g old) → IsDecidedAlone (g.seen old) (g.seen new) v
-  pub doubt : IfSome (g.doubt new) (DoubtOr (g.doubt old) (LeftMakes (g.seen old) c now w))
-  pub moments : LeavesOnly g.moment g.left_since old new (RecoversWith (g.seen old) (DoubtOr (g.doubt old) (LeftMakes (g.seen old) c now w)))
+  pub alone : IsAlone (clerked g old) → IsLeft c now w (g.seen old) (g.doubt old) v (g.seen new) (g.doubt new)
+  pub doubt : IfSome (g.doubt new) (DoubtOr (g.doubt old) (MayCome (LeftMakes (g.seen old) c now w) (g.seen old)))
+  pub moments : LeavesOnly g.moment g.left_since old new (RecoversWith (g.seen old) (DoubtOr (g.doubt old) (MayCome (LeftMakes (g.seen old) c now w) (g.seen old))))
 
 -- ---- what was checked
 
@@ -103,6 +105,12 @@ abbrev pub is_stale : Verdict → Bool
 is_stale (verdict.Stale place) = true
 is_stale _ = false
 
+-- what a decision does to what was in doubt, where nobody else decides: it is settled, but where the disk or memory fails
+abbrev pub IsClearBy : Option Change → Option Change → Verdict → Type 0
+IsClearBy old new verdict.DiskFault = IsSome new
+IsClearBy old new verdict.NoMemory = (new ≡ None) ⊎ (new ≡ old)
+IsClearBy old new _ = new ≡ None
+
 -- How a clerk, asked or not before, decided what carries the octets.
 pub record IsRuled {K : Type 0} (g : Ghosts K) (k : Replier) (b : List ℕ) (old new : K) (now : ℕ) (w : List ℕ) (c : Checked) (v : Verdict) : Type 0 where
   pub goes : Goes g old new (IsOwn k b (g.seen old) now w)
@@ -111,7 +119,9 @@ pub record IsRuled {K : Type 0} (g : Ghosts K) (k : Replier) (b : List ℕ) (old
   pub timely : IsInTime v
   pub mine : g.mine new ≡ g.mine old ++ decided_place v
   pub fault : v ≡ verdict.DiskFault → Rose (g.faults old) (g.faults new)
+  pub kept : v ≢ verdict.DiskFault → g.faults new ≡ g.faults old
   pub alone : IsAlone (clerked g old) → IsDecidedAlone (g.seen old) (g.seen new) v
+  pub clears : IsAlone (clerked g old) → IsClearBy (g.doubt old) (g.doubt new) v
   pub stale : is_stale v ≡ true → IsTellable (g.seen new) c
 
 -- ---- replies

@@ -1,11 +1,12 @@
 -- How an answer ends.
-use Rattle.std.specs.Prelude.{◌≡◌, ◌⊎◌, ℕ, List, [], ◌∷◌, ◌++◌, length, replicate, Option, Some, None}
+use Rattle.std.specs.Prelude.{◌≡◌, ◌⊎◌, ℕ, List, [], ◌∷◌, ◌++◌, length, replicate, Option, Some, None, IsSome}
 use Rattle.cmp_ports.specs.Faults.{Rose}
 use Rattle.cmp_ports.specs.declared.note.Answered.{Answered}
 use Rattle.cmp_ports.specs.declared.note.Answered.TheVariants.{Replied, Failed, NoMemory}
 use Rattle.cmp_ports.specs.declared.note.Note.{Note}
 use Rattle.cmp_ports.specs.declared.note.Outcome.{Outcome}
 use Rattle.cmp_ports.specs.declared.note.Outcome.TheVariants.{Done, Again, Refused, SystemFailure}
+use Rattle.deal_changes.specs.declared.change.Change.{Change}
 use Rattle.reply_maker.specs.Replies.{Replier}
 use Rattle.front.specs.Answers.{after, IsAnswered, IsFailure, IsMade}
 use Rattle.front.specs.Clerks.{Clerked, IsAlone}
@@ -19,11 +20,25 @@ done_place place Again = []
 done_place place (Refused fail) = []
 done_place place SystemFailure = []
 
+-- No disk failed under the clerk; and where it is alone, nothing is in doubt any more, or what was in doubt before.
+pub record IsClear (old new : Clerked) : Type 0 where
+  pub faults : new.faults ≡ old.faults
+  pub doubt : IsAlone old → (new.doubt ≡ None) ⊎ (new.doubt ≡ old.doubt)
+
+-- A decision settles what was in doubt before it makes a change or tells an earlier one again.
+abbrev pub IsSettled : Outcome → Option Change → Type 0
+IsSettled Done doubt = doubt ≡ None
+IsSettled Again doubt = doubt ≡ None
+IsSettled (Refused fail) doubt = Unit {0}
+IsSettled SystemFailure doubt = Unit {0}
+
 -- The message was decided and answered; where the clerk is alone, over the history that it had seen, and nothing else was made.
 pub record IsReply (k : Replier) (b : List ℕ) (old new : Clerked) (now : ℕ) (w : List ℕ) (note : Note) (reply : List ℕ) : Type 0 where
   pub answered : IsAnswered k b old.seen new.seen now w note reply
   pub mine : new.mine ≡ old.mine ++ done_place note.place note.outcome
   pub alone : IsAlone old → (answered.before ≡ old.seen) × (new.seen ≡ after answered.before answered.what)
+  pub clear : IsClear old new
+  pub settled : IsAlone old → IsSettled note.outcome new.doubt
 
 -- A device failed, and nothing was made.
 pub record IsDown (k : Replier) (b : List ℕ) (old new : Clerked) (now : ℕ) (note : Note) (reply : List ℕ) : Type 0 where
@@ -31,27 +46,32 @@ pub record IsDown (k : Replier) (b : List ℕ) (old new : Clerked) (now : ℕ) (
   pub mine : new.mine ≡ old.mine
   pub alone : IsAlone old → (failure.known ≡ old.seen) × (new.seen ≡ old.seen)
 
--- the disk failed
+-- the disk failed: what was in doubt still is, or the message's own change
 pub record IsDiskDown (k : Replier) (b : List ℕ) (old new : Clerked) (now : ℕ) (w : List ℕ) (note : Note) (reply : List ℕ) : Type 0 where
   pub down : IsDown k b old new now note reply
   pub words : note.words ≡ w
   pub rose : Rose old.faults new.faults
+  pub doubtful : IsAlone old → IsSome new.doubt
 
 -- no words could be drawn: they are zeros in the note
 pub record IsEntropyDown (k : Replier) (b : List ℕ) (old new : Clerked) (now : ℕ) (note : Note) (reply : List ℕ) : Type 0 where
   pub down : IsDown k b old new now note reply
   pub words : note.words ≡ replicate 32 0
+  pub clear : IsClear old new
 
--- Memory ran out, and nothing was made.
+-- Memory ran out, and nothing was made. It may have run out as a failure of the disk was to be told.
 pub record IsIdle (old new : Clerked) : Type 0 where
   pub mine : new.mine ≡ old.mine
   pub alone : IsAlone old → new.seen ≡ old.seen
+  pub clear : IsClear old new ⊎ Rose old.faults new.faults
 
 -- Memory ran out after the message had made its change.
 pub record IsUnanswered (k : Replier) (b : List ℕ) (old new : Clerked) (now : ℕ) (w : List ℕ) : Type 0 where
   pub made : IsMade k b old.seen new.seen now w
   pub mine : new.mine ≡ old.mine ++ length (made.before ++ made.change ∷ []) ∷ []
   pub alone : IsAlone old → (made.before ≡ old.seen) × (new.seen ≡ made.before ++ made.change ∷ [])
+  pub clear : IsClear old new
+  pub settled : IsAlone old → new.doubt ≡ None
 
 -- a reply with the words that were drawn, by its outcome
 abbrev pub IsReplyFor : Replier → List ℕ → Clerked → Clerked → ℕ → List ℕ → Note → List ℕ → Outcome → Type 0

@@ -9,6 +9,7 @@ use Rattle.deal_changes.specs.declared.change.Change.{Change}
 use Rattle.deal_changes.specs.declared.change.Settings.{Settings}
 use Rattle.deal_model.specs.Views.{History, founding}
 use Rattle.desk.specs.declared.clerk.Clerk as clerks
+use Rattle.letter_laws.specs.Laws.{HasLetter}
 use Rattle.reply_maker.specs.Keys.{Loaded}
 use Rattle.reply_maker.specs.Replies.{Replier, replier_of}
 use Rattle.front.specs.Answers.{IsOwn}
@@ -42,9 +43,11 @@ abbrev pub Own : Replier → List ℕ → History → ℕ → Option (List ℕ) 
 Own k b seen now (Some w) c = IsOwn k b seen now w c
 Own k b seen now None c = ⊥
 
--- How a front answers octets: it reads its clock once and draws words once, and its clerk decides.
+-- How a front answers octets: it reads its clock once and draws words once, and its clerk decides. The octets have a letter, so that
+-- what is said of each letter that they are is said of one.
 pub record IsFrontAnswer {K C E : Type 0} (ks : clerks.Ghosts K) (cs : clocks.Ghosts C) (es : entropies.Ghosts E) (old : Parts K C E) (b : List ℕ) (end : Answered) (reply : List ℕ) (new : Parts K C E) : Type 0 where
   pub keys : new.keys ≡ old.keys
+  pub letter : HasLetter b
   pub now : ℕ
   pub timely : now ≤ latest
   pub reads : Gives (cs.readings old.clock) (cs.readings new.clock) now

@@ -10,6 +10,7 @@ use crate::handing::{failed_device, hand};
 use crate::serving::serve;
 use cmp_ports::{Answered, Answerer, Clock, Entropy, Gate, Octets};
 use desk::Clerk;
+use letter_laws::each_has_one_letter;
 use reply_maker::Keys;
 use std::alloc::Global;
 
@@ -57,6 +58,11 @@ impl<'k, K: Clerk, C: Clock, E: Entropy, G: Gate> Front<'k, K, C, E, G> {
         }
     }
 
+    /// The history that the clerk has seen was founded with the settings of the keys: a law, which does nothing.
+    pub fn stands(&self)
+        ensures { HasSettings (K.seen self.now.clerk) self.now.keys.now.settings }
+    {}
+
     /// Which device failed in the last answer; none where it was another answer than that a device failed.
     pub fn failed(&self) -> Option<Device>
         ensures { result ≡ self.now.failed }
@@ -94,6 +100,7 @@ impl<'k, K: Clerk, C: Clock, E: Entropy, G: Gate> Answerer for Front<'k, K, C, E
     ghost faults = { λ _. 0 };
 
     fn answer(&mut self, request: &[u8], reply: &mut Octets) -> Answered {
+        each_has_one_letter(request);
         let now = self.clock.now();
         let drawn = draw(&mut self.entropy);
         let response = serve(

@@ -1,12 +1,14 @@
 -- A key file and its parts.
 use Rattle.std.specs.Prelude.{ℕ, ◌≡◌, ◌≤◌, List, [], ◌++◌, length, take, drop, Option, None, Some, IfSome, Result, Ok, Err, refl}
+use Rattle.std.specs.Io.KnownBytes.{Consumes}
 use Rattle.std.proofs.Common.{sym, ◌∙◌, ap, subst, arith, length-drop, length-take-le, inl, inr}
-use Rattle.std.proofs.lemmas.List.{take-append-drop, drop-drop, take_all}
+use Rattle.std.proofs.lemmas.List.{take-append-drop, append_cancel_left, drop-drop, take_all}
 use Rattle.std.proofs.lemmas.Bool.{cases_lt}
-use Rattle.reply_maker.specs.KeyFile.{IsKeyFile, key_file, issue_seed, issue_id, reply_seed, reply_id}
+use Rattle.reply_maker.specs.KeyFile.{IsKeyFile, IsReadSoFar, key_file, issue_seed, issue_id, reply_seed, reply_id}
 use Rattle.reply_maker.specs.declared.key_file.KeyFile.{KeyFile}
 use Rattle.reply_maker.specs.declared.key_file.KeyFault.{KeyFault}
 use Rattle.reply_maker.specs.declared.key_file.KeyFault.TheVariants.{ReadFault, BadKeyFile, KeyMismatch, NoMemory}
+use Rattle.reply_maker.specs.Keys.{IsReadBy, LeavesRest}
 use Rattle.reply_maker.specs.Parts.{HasParts, joined, GivesParts, IsRead}
 
 -- the parts of 96 octets are the octets
@@ -66,3 +68,24 @@ unread left r gives = let f = some_file left in record { file = f.0; read = f.1;
 -- what is read has the parts of its own file
 pub has_joined : (file : List ℕ) (k : KeyFile) → HasParts file k → HasParts (joined k) k
 has_joined file k h = subst (λ (l : List ℕ). HasParts l k) (sym (joined_is file k h)) h
+
+-- what is left behind the octets that were read
+rest_of : (all octets rest : List ℕ) → octets ≡ take 97 all → all ≡ octets ++ rest → rest ≡ drop 97 all
+rest_of all octets rest read e =
+    append_cancel_left (take 97 all) rest (drop 97 all) (sym (e ∙ ap (λ (l : List ℕ). l ++ rest) read) ∙ sym (take-append-drop 97 all))
+
+pub read_so_far : (left after : Option (List ℕ)) (octets : List ℕ) → IfSome left (λ all. octets ≡ take 97 all) → Consumes left after octets → IsReadSoFar left after
+read_so_far None after octets read taken = tt
+read_so_far (Some all) None octets read taken = absurd taken
+read_so_far (Some all) (Some rest) octets read taken = rest_of all octets rest read taken
+
+-- .. whatever the octets that were read give then
+read_by : (left after : Option (List ℕ)) (f : KeyFault) → IsReadSoFar left after → IsReadBy left after f
+read_by left after ReadFault so = tt
+read_by left after BadKeyFile so = so
+read_by left after (KeyMismatch told known) so = so
+read_by left after NoMemory so = tt
+
+pub leaves_rest : {A : Type 0} (left after : Option (List ℕ)) (r : Result A KeyFault) → IsReadSoFar left after → LeavesRest left after r
+leaves_rest left after (Ok x) so = so
+leaves_rest left after (Err f) so = read_by left after f so

@@ -1,6 +1,6 @@
 -- The key file of an authority: the private keys of its two trees (RFC 8554, 5.2 and appendix A), that which signs
 -- certificates before that which signs replies.
-use Rattle.std.specs.Prelude.{ℕ, ◌≡◌, ◌≢◌, List, ◌++◌, length, take, drop, replicate}
+use Rattle.std.specs.Prelude.{ℕ, ◌≡◌, ◌≢◌, List, ◌++◌, length, take, drop, replicate, Option, IfSome, IsSomeAnd}
 
 -- the file of these four parts, in order
 abbrev pub key_file : List ℕ → List ℕ → List ℕ → List ℕ → List ℕ
@@ -26,3 +26,7 @@ pub record IsKeyFile (file : List ℕ) : Type 0 where
   pub apart : issue_id file ≢ reply_id file
   pub issue_id_given : issue_id file ≢ replicate 16 0
   pub reply_id_given : reply_id file ≢ replicate 16 0
+
+-- A stream is read so far that a key file and a longer one can be told apart: what is left is what stands behind its first 97 octets.
+abbrev pub IsReadSoFar : Option (List ℕ) → Option (List ℕ) → Type 0
+IsReadSoFar left after = IfSome left (λ all. IsSomeAnd after (λ rest. rest ≡ drop 97 all))

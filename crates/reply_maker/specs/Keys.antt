@@ -1,12 +1,12 @@
 -- The keys of an authority, as its key file and its settings have them.
-use Rattle.std.specs.Prelude.{ℕ, ◌≡◌, ◌≢◌, ◌≤◌, ◌^◌, ◌==◌, Bool, false, List, ◌++◌, length, drop, Option, Some, None, if◌then◌else◌, Result, Ok, Err, IfSome, IsTrue}
+use Rattle.std.specs.Prelude.{ℕ, ◌≡◌, ◌≢◌, ◌≤◌, ◌^◌, ◌==◌, Bool, false, List, ◌++◌, length, drop, Option, Some, None, if◌then◌else◌, Result, Ok, Err, MatchResult, IfSome, IsTrue}
 use Rattle.std.specs.List.{list_all}
 use Rattle.lms_tree.specs.Keys.{Secret}
 use Rattle.hss_sig.specs.OneLevel.{hss_key}
 use Rattle.deal_changes.specs.declared.change.Settings.{Settings}
 use Rattle.deal_changes.specs.Spki.{is_ca_name}
 use Rattle.deal_model.specs.Keys.{levels_of, tree_of, ots_of}
-use Rattle.reply_maker.specs.KeyFile.{IsKeyFile, key_file, issue_seed, issue_id, reply_seed, reply_id}
+use Rattle.reply_maker.specs.KeyFile.{IsKeyFile, IsReadSoFar, key_file, issue_seed, issue_id, reply_seed, reply_id}
 use Rattle.reply_maker.specs.Certificates.{root_of, reply_of}
 use Rattle.reply_maker.specs.declared.certificates.OwnCertificates.{OwnCertificates}
 use Rattle.reply_maker.specs.declared.key_file.KeyFault.{KeyFault}
@@ -111,3 +111,14 @@ pub record IsLoad (left : Option (List ℕ)) (s : Settings) (answer : Result Loa
   pub file : List ℕ
   pub read : IfSome left (λ all. all ≡ file)
   pub gives : Gives file s answer
+
+-- How far the source is read, by why there are no keys. A fault of reading and want of memory say nothing of it.
+abbrev pub IsReadBy : Option (List ℕ) → Option (List ℕ) → KeyFault → Type 0
+IsReadBy left after BadKeyFile = IsReadSoFar left after
+IsReadBy left after (KeyMismatch told known) = IsReadSoFar left after
+IsReadBy left after ReadFault = Unit {0}
+IsReadBy left after NoMemory = Unit {0}
+
+-- .. by the answer
+abbrev pub LeavesRest : {A : Type 0} → Option (List ℕ) → Option (List ℕ) → Result A KeyFault → Type 0
+LeavesRest left after answer = MatchResult answer (λ _. IsReadSoFar left after) (IsReadBy left after)

@@ -1,8 +1,8 @@
 -- The replies to the changes that messages made (RFC 9810, 5.3).
 use Rattle.std.specs.Prelude.{ℕ, ◌+◌, ◌++◌, Bool, List, [], ◌∷◌, Option, None, Some, codes, unwrap_or, if◌then◌else◌, ℤ, pos, negsuc}
 use Rattle.der_base.specs.Element.{element}
-use Rattle.cmp_ports.specs.declared.fail_info.FailInfo.{FailInfo}
-use Rattle.cmp_ports.specs.declared.fail_info.FailInfo.TheVariants.{NotAuthorized}
+use Rattle.cmp_values.specs.declared.fail_info.FailInfo.{FailInfo}
+use Rattle.cmp_values.specs.declared.fail_info.FailInfo.TheVariants.{NotAuthorized}
 use Rattle.asn_types.specs.Key.{key_identifier}
 use Rattle.asn_types.specs.Oids.{dotted}
 use Rattle.deal_changes.specs.declared.change.Body4.{Body4}

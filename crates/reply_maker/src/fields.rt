@@ -24,9 +24,9 @@ pub(crate) fn directory_name(alloc: Global, name: &[u8]) -> Result<Octets, Alloc
     Ok(Octets::of(writer.finish()))
 }
 
-/// The authority's name.
+/// The authority's Name.
 #[tactic(auto, using(asn_types::proofs::LengthLemmas::short))]
-fn ca_name(alloc: Global, keys: &Brief) -> Result<Octets, AllocError>
+pub(crate) fn ca_name(alloc: Global, keys: &Brief) -> Result<Octets, AllocError>
     ensures written { IfOk result (λ octets. octets ≡ ca_name keys.now) }
     ensures short { IfOk result (λ octets. length octets ≤ 128) }
 {

@@ -1,7 +1,9 @@
 //! The file of the private keys of an authority.
-ghost use Rattle.std.specs.Prelude.{◌≡◌, ◌+◌, ◌≤◌, length, take, drop, MatchOption, IsErrOf, OnOk};
+ghost use Rattle.std.specs.Prelude.{◌≡◌, ◌≢◌, ◌+◌, ◌≤◌, length, take, drop, MatchOption, Err, IsErrOf};
 ghost use Rattle.cmp_ports.specs.Faults.{Rose};
+ghost use Rattle.cmp_ports.specs.Whole.{TakesUpTo};
 ghost use Rattle.reply_maker.specs.KeyFile.{IsKeyFile};
+ghost use Rattle.reply_maker.specs.Keys.{LeavesRest};
 ghost use Rattle.reply_maker.specs.Parts.{HasParts, IsRead};
 
 use cmp_ports::{ReadError, Source, read_up_to};
@@ -83,8 +85,10 @@ fn parts_of(octets: &[u8]) -> Option<KeyFile>
 /// Reads a key file to its end, at most one octet past its size.
 pub(crate) fn read_key_file<K: Source>(alloc: Global, key: &mut K) -> Result<KeyFile, KeyFault>
     ensures read { IsRead (K.left key.old) result }
+    ensures within { TakesUpTo 97 (K.left key.old) (K.left key.new) }
+    ensures rest { LeavesRest (K.left key.old) (K.left key.new) result }
     ensures later { K.faults key.old ≤ K.faults key.new }
-    ensures kept { OnOk result (K.faults key.new ≡ K.faults key.old) }
+    ensures kept { result ≢ Err KeyFault.ReadFault → K.faults key.new ≡ K.faults key.old }
     ensures fault { IsErrOf result KeyFault.ReadFault → Rose (K.faults key.old) (K.faults key.new) }
 {
     match read_up_to(alloc, key, KEY_FILE_SIZE) {

@@ -1,10 +1,12 @@
 //! The keys of an authority.
-ghost use Rattle.std.specs.Prelude.{◌≡◌, ◌≢◌, ◌<◌, ◌≤◌, IfOk, IfErr, IsErrOf, OnOk, MatchOption, IfSome, true, false};
+ghost use Rattle.std.specs.Prelude.{◌≡◌, ◌≢◌, ◌<◌, ◌≤◌, Err, IfOk, IfErr, IsErrOf, MatchOption, IfSome, true, false};
 ghost use Rattle.cmp_ports.specs.Faults.{Rose};
+ghost use Rattle.cmp_ports.specs.Whole.{TakesUpTo};
 ghost use Rattle.hss_sig.specs.OneLevel.{hss_key, leaf_count};
 ghost use Rattle.reply_maker.specs.Certificates.{root_of, reply_of};
+ghost use Rattle.reply_maker.specs.KeyFile.{IsKeyFile};
 ghost use Rattle.reply_maker.specs.Parts.{HasParts, joined};
-ghost use Rattle.reply_maker.specs.Keys.{AreUsable, AreShort, certificates_of, issue_secret, reply_secret, identity_of, are_blank, Gives, IsLoad};
+ghost use Rattle.reply_maker.specs.Keys.{AreUsable, AreShort, certificates_of, issue_secret, reply_secret, identity_of, are_blank, Agrees, Gives, IsLoad, LeavesRest};
 
 use crate::certificates::{OwnCertificates, certificates};
 use crate::key_file::{KeyFault, KeyFile, read_key_file};
@@ -86,9 +88,14 @@ impl Keys {
         // The keys are those of the file; or the file is of no form, or another authority's.
         ensures loaded { IsLoad (K.left key.old) settings.now result }
 
-        // The count of the source's faults stands where the file is read, and has risen after `ReadFault`.
+        // At most the octets of a key file and one more are read, whatever the answer; and just these, also of a file that is none
+        // or another authority's.
+        ensures within { TakesUpTo 97 (K.left key.old) (K.left key.new) }
+        ensures rest { LeavesRest (K.left key.old) (K.left key.new) result }
+
+        // The count of the source's faults has risen after `ReadFault`, and stands after every other answer.
         ensures later { K.faults key.old ≤ K.faults key.new }
-        ensures kept { OnOk result (K.faults key.new ≡ K.faults key.old) }
+        ensures kept { result ≢ Err KeyFault.ReadFault → K.faults key.new ≡ K.faults key.old }
         ensures fault { IsErrOf result KeyFault.ReadFault → Rose (K.faults key.old) (K.faults key.new) }
     {
         match read_key_file(alloc, key) {
@@ -122,6 +129,15 @@ impl Keys {
             certificates,
             settings,
         })
+    }
+
+    /// The file that the keys were loaded from has a key file's form, and is that of the settings where their keys are made: a law,
+    /// which does nothing.
+    pub fn stand(&self)
+        ensures file { IsKeyFile self.now.file }
+        ensures own { Agrees self.now.file self.now.settings }
+    {
+        let _ = &self.settings;
     }
 
     /// The key that signs certificates.

@@ -17,5 +17,5 @@ mod trees;
 
 pub use key_file::KeyFault;
 pub use keys::Keys;
-pub use refusals::{Guard, refuse};
+pub use refusals::{Guard, refuse, refuse_as};
 pub use sealing::{grant_hash, seal};

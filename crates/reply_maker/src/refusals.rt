@@ -5,14 +5,14 @@ ghost use Rattle.der_base.specs.Element.{element};
 ghost use Rattle.deal_table.specs.History.{brief_of};
 ghost use Rattle.deal_table.specs.Message.{echoed};
 ghost use Rattle.pki_header.specs.Plan.{field_size, plan_size};
-ghost use Rattle.reply_maker.specs.Refusals.{refusal_header, refusal_body, refusal_of};
+ghost use Rattle.reply_maker.specs.Refusals.{refusal_header, refusal_body, refusal_by, refusal_of};
 ghost use Rattle.reply_maker.specs.Messages.{nonce_in, salt_in};
 
-use crate::fields::{authority, field, nonce_in, recipient_for, salt_in};
+use crate::fields::{ca_name, directory_name, field, nonce_in, recipient_for, salt_in};
 use crate::keys::Keys;
 use crate::message::message;
 use cmp_ports::{FailInfo, Octets, Short};
-use deal_model::{Brief, Echo};
+use deal_model::Echo;
 use der_base::Writer;
 use desk::brief_of;
 use hss_sig::OneLevel;
@@ -67,19 +67,20 @@ fn nonce_of(alloc: Global, words: Option<&[u8; 32]>) -> Result<Option<Octets>, A
 /// The header of a refusal.
 fn refusal_header(
     alloc: Global,
-    keys: &Brief,
+    name: &[u8],
     echo: &Echo,
     guard: Option<&Guard>,
     time: u64,
     words: Option<&[u8; 32]>,
 ) -> Result<HeaderPlan, AllocError>
-    requires { length echo.now.sender.now ≤ 131_072 }
-    ensures written { IfOk result (λ p. p ≡ refusal_header keys.now (echoed echo.now) (option_map secret_in (option_copied guard.entry)) time (option_copied words.entry)) }
+    requires name { length name.now ≤ 128 }
+    requires sender { length echo.now.sender.now ≤ 131_072 }
+    ensures written { IfOk result (λ p. p ≡ refusal_header name.now (echoed echo.now) (option_map secret_in (option_copied guard.entry)) time (option_copied words.entry)) }
     ensures short { IfOk result (λ p. plan_size p ≤ 2 ^ 18) }
 {
     Ok(HeaderPlan {
         pvno: echo.pvno,
-        sender: authority(alloc, keys)?,
+        sender: directory_name(alloc, name)?,
         recipient: recipient_for(alloc, echo.sender)?,
         time: Some(time),
         alg: None,
@@ -94,77 +95,84 @@ fn refusal_header(
 }
 
 /// A refusal that nothing protects.
-#[tactic(auto, unfolding(crate::specs::Refusals::refusal_of))]
+#[tactic(auto, unfolding(crate::specs::Refusals::refusal_by))]
 fn unprotected(
     alloc: Global,
-    keys: &Brief,
+    name: &[u8],
     echo: &Echo,
     fail: FailInfo,
     time: u64,
     words: Option<&[u8; 32]>,
 ) -> Result<Octets, AllocError>
+    requires name { length name.now ≤ 128 }
     requires time { time ≤ 250_000_000_000 }
     requires sender { length echo.now.sender.now ≤ 131_072 }
-    ensures { IfOk result (λ octets. octets ≡ refusal_of keys.now (echoed echo.now) fail None time (option_copied words.entry)) }
+    ensures { (rounds : ℕ) → IfOk result (λ octets. octets ≡ refusal_by name.now rounds (echoed echo.now) fail None time (option_copied words.entry)) }
 {
-    let header = refusal_header(alloc, keys, echo, None, time, words)?;
+    let header = refusal_header(alloc, name, echo, None, time, words)?;
     let body = refusal_body(alloc, fail)?;
     let how: How<'_, OneLevel> = How::Nothing;
     message(alloc, &header, body.as_slice(), &how, None)
 }
 
 /// A refusal that the MAC of a secret protects.
-#[tactic(auto, unfolding(crate::specs::Refusals::refusal_of))]
+#[tactic(auto, unfolding(crate::specs::Refusals::refusal_by))]
 fn guarded(
     alloc: Global,
-    keys: &Brief,
+    name: &[u8],
+    rounds: u32,
     echo: &Echo,
     fail: FailInfo,
     guard: &Guard,
     time: u64,
     words: &[u8; 32],
 ) -> Result<Octets, AllocError>
+    requires name { length name.now ≤ 128 }
     requires time { time ≤ 250_000_000_000 }
     requires sender { length echo.now.sender.now ≤ 131_072 }
-    requires rounds { 1 ≤ keys.now.rounds }
-    ensures { IfOk result (λ octets. octets ≡ refusal_of keys.now (echoed echo.now) fail (Some (secret_in guard.now)) time (Some words.now)) }
+    requires rounds { 1 ≤ rounds }
+    ensures { IfOk result (λ octets. octets ≡ refusal_by name.now rounds (echoed echo.now) fail (Some (secret_in guard.now)) time (Some words.now)) }
 {
-    let header = refusal_header(alloc, keys, echo, Some(guard), time, Some(words))?;
+    let header = refusal_header(alloc, name, echo, Some(guard), time, Some(words))?;
     let body = refusal_body(alloc, fail)?;
     let how: How<'_, OneLevel> = How::Mac {
         secret: guard.secret,
         salt: salt_in(words),
-        rounds: keys.rounds,
+        rounds,
     };
     message(alloc, &header, body.as_slice(), &how, None)
 }
 
-/// A refusal under these settings.
-fn refusal(
+/// Writes the refusal by whoever has this Name, at most 128 octets: an error message (RFC 9810, 5.3.21) that answers a message with
+/// its reason, at a second. It is protected by the MAC of the guard's secret, of so many rounds, where there is a guard; words are
+/// drawn for a guard's salt at least. `AllocError` where memory runs out.
+pub fn refuse_as(
     alloc: Global,
-    keys: &Brief,
+    name: &[u8],
+    rounds: u32,
     echo: &Echo,
     fail: FailInfo,
     guard: Option<&Guard>,
     time: u64,
     words: Option<&[u8; 32]>,
 ) -> Result<Octets, AllocError>
+    requires name { length name.now ≤ 128 }
     requires time { time ≤ 250_000_000_000 }
     requires sender { length echo.now.sender.now ≤ 131_072 }
-    requires rounds { 1 ≤ keys.now.rounds }
+    requires rounds { 1 ≤ rounds }
     requires drawn { IsSome guard → IsSome words }
-    ensures { IfOk result (λ octets. octets ≡ refusal_of keys.now (echoed echo.now) fail (option_map secret_in (option_copied guard.entry)) time (option_copied words.entry)) }
+    ensures { IfOk result (λ octets. octets ≡ refusal_by name.now rounds (echoed echo.now) fail (option_map secret_in (option_copied guard.entry)) time (option_copied words.entry)) }
 {
     let Some(guard) = guard else {
-        return unprotected(alloc, keys, echo, fail, time, words);
+        return unprotected(alloc, name, echo, fail, time, words);
     };
     let Some(words) = words else { unreachable!() };
-    guarded(alloc, keys, echo, fail, guard, time, words)
+    guarded(alloc, name, rounds, echo, fail, guard, time, words)
 }
 
-/// Writes a refusal: an error message (RFC 9810, 5.3.21) that answers a message with its reason, at a second. It is protected by
-/// the MAC of the guard's secret, where there is a guard; the words are drawn for it, and only a failure of the service itself may
-/// have none, which nothing protects then. `AllocError` where memory runs out.
+/// Writes the authority's refusal, as `refuse_as` does, with its name and the rounds of its settings. The words are drawn for it, and
+/// only a failure of the service itself may have none, which nothing protects then. `AllocError` where memory runs out.
+#[tactic(auto, unfolding(crate::specs::Refusals::refusal_of))]
 pub fn refuse(
     alloc: Global,
     keys: &Keys,
@@ -180,9 +188,12 @@ pub fn refuse(
     requires guarded { IsSome guard → IsSome words }
     ensures { IfOk result (λ octets. octets ≡ refusal_of (brief_of keys.now.settings) (echoed echo.now) fail (option_map secret_in (option_copied guard.entry)) time (option_copied words.entry)) }
 {
-    refusal(
+    let settings = brief_of(keys.settings());
+    let name = ca_name(alloc, &settings)?;
+    refuse_as(
         alloc,
-        &brief_of(keys.settings()),
+        name.as_slice(),
+        settings.rounds,
         echo,
         fail,
         guard,

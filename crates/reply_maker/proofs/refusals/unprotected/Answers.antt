@@ -6,5 +6,5 @@ use Rattle.reply_maker.proofs.MessageLemmas.{unprotected_is}
 use Rattle.reply_maker.proofs.refusals.unprotected.Goals as goal
 
 pub returns : goal.returns
-returns c = unprotected_is c.message.result c.args.keys.now (echoed c.args.echo.now) c.args.fail c.args.time (option_copied c.args.words) _ _
+returns c rounds = unprotected_is c.message.result c.args.name.now rounds (echoed c.args.echo.now) c.args.fail c.args.time (option_copied c.args.words) _ _
     c.in_ok-header.ensures.written (c.as_slice.ensures ∙ c.in_ok-body.ensures.written) c.message.ensures
