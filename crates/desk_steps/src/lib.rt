@@ -1,0 +1,6 @@
+//! The calls of a desk are steps of the world.
+#![tactic(auto)]
+
+mod laws;
+
+pub use laws::calls_are_steps;

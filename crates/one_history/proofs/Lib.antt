@@ -1,0 +1,12 @@
+mod Images
+mod Made
+mod Leads
+mod Stages
+mod Opening
+mod Stopping
+mod Stepping
+mod Chain
+mod Answers
+mod Grants
+mod Texts
+mod Law
