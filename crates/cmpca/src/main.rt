@@ -1,36 +1,33 @@
 //! The certification authority's program. `cmpca verify SECRET` reads one CMP message from standard input and tells
 //! whether its PBMAC1 protection holds; `cmpca JOURNAL KEY init` founds an authority in a journal, `show` in the place of `init`
 //! tells how its history stands, and `enlist`, `dismiss`, `release` and `deny` change it by one change. `take` answers one CMP
-//! message of standard input, with the keys of the file KEY, and adds at most the change that the message makes.
+//! message of standard input, with the keys of the file KEY, and adds at most the change that the message makes. What is told on
+//! standard output is all that a run has to tell; lines on standard error say why a device failed, and what helps.
 #![tactic(auto)]
 
-mod check;
-mod dismiss;
-mod ending;
-mod enlist;
-mod file;
-mod init;
-mod order;
-mod reply;
-mod show;
-mod status;
-mod take;
-#[cfg(test)]
-mod tests;
-mod tool;
-mod verdict;
-mod words;
+mod advice;
+mod heard;
 
-use cmp_ports::{FileDisk, FileEntropy, FileSource, StdSink, StdSource, SysClock};
-use ending::no_memory;
-use status::Status;
+use advice::{advise, tell_one_file, tell_why, warn_of_readers};
+use cmp_ports::{
+    FileDisk, FileEntropy, FileSource, Opening, StdSink, StdSource, SysClock, hold_streams,
+    is_one_file, others_may_read,
+};
+use cmpca_tool::{Status, no_memory, run_tool};
+use heard::Heard;
 use std::alloc::{AllocError, Global};
 use std::process::ExitCode;
 use std::{env, io};
-use tool::run_tool;
 
 /// The file that random octets are read from.
 const ENTROPY: &str = "/dev/urandom";
+
+/// The places of the words.
+const JOURNAL: usize = 0;
+
+const KEY: usize = 1;
+
+const COMMAND: usize = 2;
 
 /// The words behind the program's name.
 fn words_of(rt: &HostRuntime) -> io::Result<Vec<String>> {
@@ -45,15 +42,50 @@ fn path_at(alloc: Global, words: &[String], place: usize) -> Result<String, Allo
     }
 }
 
+/// Whether the word at a place is this one.
+fn is_at(words: &[String], place: usize, word: &str) -> bool {
+    match words.get(place) {
+        Some(found) => found.as_str() == word,
+        None => false,
+    }
+}
+
+/// What may be done with the journal: `init` alone makes it, and `show` only reads it.
+fn opening_of(words: &[String]) -> Opening {
+    if is_at(words, COMMAND, "init") {
+        return Opening::MayBeMade;
+    }
+    if is_at(words, COMMAND, "show") {
+        return Opening::ReadOnly;
+    }
+    Opening::Existing
+}
+
+/// Warns where others may read the key file of a command that reads it.
+fn warn(rt: &HostRuntime, words: &[String]) {
+    if !is_at(words, COMMAND, "init") && !is_at(words, COMMAND, "take") {
+        return;
+    }
+    if let Some(path) = words.get(KEY) {
+        if others_may_read(rt, path.as_str()) {
+            warn_of_readers(rt, path.as_str());
+        }
+    }
+}
+
 /// Runs the program on these words over the real files, streams and clock.
-fn run_words(rt: &HostRuntime, words: &[String], out: &mut StdSink) -> Result<Status, AllocError> {
+fn run_words(
+    rt: &HostRuntime,
+    words: &[String],
+    out: &mut Heard<StdSink>,
+) -> Result<Status, AllocError> {
     let alloc = rt.alloc();
-    let mut disk = FileDisk::new(rt, path_at(alloc, words, 0)?);
-    let mut key = FileSource::new(rt, path_at(alloc, words, 1)?);
+    let mut disk = FileDisk::new(rt, path_at(alloc, words, JOURNAL)?, opening_of(words));
+    let mut key = FileSource::new(rt, path_at(alloc, words, KEY)?);
     let mut entropy = FileEntropy::new(rt, String::from_str(alloc, ENTROPY)?);
     let mut input = StdSource::new(rt.stdin());
     let mut clock = SysClock::new(rt);
-    Ok(run_tool(
+    let status = run_tool(
         alloc,
         words,
         &mut key,
@@ -62,14 +94,41 @@ fn run_words(rt: &HostRuntime, words: &[String], out: &mut StdSink) -> Result<St
         &mut clock,
         &mut entropy,
         out,
-    ))
+    );
+    let told = [
+        tell_why(rt, disk.path(), disk.why()),
+        tell_why(rt, key.path(), key.why()),
+        tell_why(rt, entropy.path(), entropy.why()),
+        tell_why(rt, "standard input", input.why()),
+        tell_why(rt, "standard output", out.out().why()),
+    ];
+    if told == [false; 5] {
+        advise(rt, status, out.first());
+    }
+    Ok(status)
 }
 
-/// Runs the program on the words of its command line.
+/// Runs the program on the words of its command line. Words that name one file for two roles are of no form.
+fn run_checked(
+    rt: &HostRuntime,
+    words: &[String],
+    out: &mut Heard<StdSink>,
+) -> Result<Status, AllocError> {
+    if let [journal, key, _, ..] = words {
+        if is_one_file(rt, journal.as_str(), key.as_str()) {
+            tell_one_file(rt, journal.as_str());
+            return run_words(rt, &[], out);
+        }
+    }
+    warn(rt, words);
+    run_words(rt, words, out)
+}
+
+/// Runs the program on its words.
 fn run(rt: &HostRuntime) -> Status {
-    let mut out = StdSink::new(rt.stdout());
+    let mut out = Heard::new(StdSink::new(rt.stdout()));
     let ended = match words_of(rt) {
-        Ok(words) => run_words(rt, &words, &mut out),
+        Ok(words) => run_checked(rt, &words, &mut out),
         Err(error) if error.kind() == io::ErrorKind::OutOfMemory => Err(AllocError),
 
         // A word that is not text is in no form, as no words are.
@@ -82,5 +141,9 @@ fn run(rt: &HostRuntime) -> Status {
 }
 
 fn main(rt: HostRuntime) -> ExitCode {
+    // Where a closed stream's descriptor can't be taken, a file could stand in its place: nothing is opened.
+    if hold_streams(&rt).is_err() {
+        return ExitCode::from(Status::DiskFault.number());
+    }
     ExitCode::from(run(&rt).number())
 }
