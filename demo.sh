@@ -74,6 +74,7 @@ show "A secret of 4 octets" \
 
 # The journal of an enrolled device, laid out by Python
 journal=$(python3 "$top/tests/vectors/journal_vectors.py" | sed -n 's/^journal //p')
+umask 077
 folder=$(mktemp -d)
 trap 'rm -rf "$folder"' EXIT
 cd "$folder"
@@ -96,21 +97,8 @@ identifiers_differ() {
 until identifiers_differ; do head -c 96 /dev/urandom >key; done
 head -c 95 key >short
 hex() { od -An -v -tx1 | tr -d ' \n'; }
-settings=$(hex <"$top/tests/interop/settings.toml")
-devices=$(hex <<'DEVICES'
-[[credential]]
-kind = "mac"
-reference = "dev-1"
-secret = "7365637265742d31"
-rights = ["enrol"]
-[[credential]]
-kind = "mac"
-reference = "dev-2"
-secret = "7365637265742d32"
-rights = ["enrol"]
-hold = true
-DEVICES
-)
+settings=$(hex <"$top/examples/settings.toml")
+devices=$(hex <"$top/examples/devices.toml")
 show "A key file of 95 octets" "$settings" "bad key file" 10 journal short init
 show "Settings and a key file found an authority" \
     "$settings" "$(python3 "$top/tests/vectors/init_vectors.py" key)" 0 journal key init

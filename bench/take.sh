@@ -9,6 +9,7 @@ if ! command -v python3 >/dev/null; then
     exit 0
 fi
 program=$("$here/build.sh") || exit 0
+umask 077
 work=$(mktemp -d -p /var/tmp)
 trap 'rm -rf "$work"' EXIT
 

@@ -38,7 +38,8 @@ class Runs:
             run = subprocess.run([self.program, *words], input=message, capture_output=True, timeout=SECONDS)
         except subprocess.TimeoutExpired:
             return -1, f"no answer in {SECONDS} s"
-        if run.stderr:
+        # A refusal has a line there too; whatever else stands there is no answer.
+        if not all(line.startswith(b"cmpca: ") for line in run.stderr.splitlines()):
             return run.returncode, f"{run.stdout!r} and on standard error {run.stderr!r}"
         return run.returncode, run.stdout.decode("utf-8", "backslashreplace")
 

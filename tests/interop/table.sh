@@ -12,6 +12,7 @@ if ! command -v python3 >/dev/null; then
 fi
 program=${1:-$("$top/bench/build.sh")} || exit 0
 
+umask 077
 work=$(mktemp -d)
 trap 'rm -rf "$work"' EXIT
 python3 -B "$here/table.py" "$program" "$work"

@@ -12,7 +12,7 @@ import sys
 
 from cmp_messages import signed_by
 
-SETTINGS = os.path.join(os.path.dirname(os.path.abspath(__file__)), "settings.toml")
+SETTINGS = os.path.join(os.path.dirname(os.path.abspath(__file__)), "..", "..", "examples", "settings.toml")
 CREDENTIALS = """[[credential]]
 kind = "mac"
 reference = "dev-1"

@@ -9,6 +9,7 @@ top=$(cd "$here/../.." && pwd)
 . "$here/bouncy.sh"
 program=${1:-$("$top/bench/build.sh")} || exit 0
 
+umask 077
 work=$(mktemp -d)
 trap 'rm -rf "$work"' EXIT
 vectors=$top/tests/vectors/java

@@ -5,7 +5,7 @@
 
 mod trees;
 
-use cmp_ports::Octets;
+use cmp_values::Octets;
 use lm_ots::{KeyPart, candidate, public_hash, sign_ots};
 use std::time::{Clock, Instant};
 use std::{env, io};
