@@ -1,0 +1,3 @@
+mod Times
+mod Frames
+mod Messages
