@@ -38,6 +38,10 @@ same_leads h g d e same = there h h g d d e [] (stays h d) same.0 same.1
 settled_leads : (h g : History) (d e : Option Change) → IsSame h None g e → Lead h d (settling d) g e
 settled_leads h g d e same = there h h g d None e (settling d) (settled h d) same.0 same.1
 
+-- nothing was done
+pub looked : (h g : History) (d e : Option Change) → IsSame h d g e → AreSteps (λ ss. ss ≡ []) h d g e
+looked h g d e same = ([], refl, same_leads h g d e same)
+
 -- no change is added
 none : (Own : Change → Type 0) (h g : History) (d e : Option Change) → IsSame h d g e → AreSteps (IsCallBy d Own None) h d g e
 none Own h g d e same = ([], refl, same_leads h g d e same)
@@ -75,19 +79,26 @@ decided h g d e k now words verdict.NoMemory before later left = ([], refl, same
 
 -- ---- lapses, orders, listings and dismissals
 
+-- what is left in doubt after a fault has to be a change that may come next
+pub lapses_of : (h g : History) (d e : Option Change) (time : ℕ) (end : Lapsed) → (end ≡ lapsed.DiskFault → IfSome e (Allowed g)) → IsLapsed h d time end g e → AreSteps (IsCallBy d (IsLapse h time) (lapse_adds end)) h d g e
+lapses_of h g d e time (lapsed.Done place tid) may ends = stands (IsLapse h time) h g d e (Lapse time tid) (tid, ends.0, refl) ends.1
+lapses_of h g d e time lapsed.Nothing may ends = none (IsLapse h time) h g d e ends.1
+lapses_of h g d e time lapsed.Full may ends = full (IsLapse h time) h g d e (Lapse time ends.0) (ends.0, ends.1, refl) ends.2.1 ends.2.2
+lapses_of h g d e time lapsed.DiskFault may ends = in_doubt _ (IsLapse h time) h g d e (Lapse time ends.0) (may refl) (ends.0, ends.1, refl) ends.2.0 ends.2.1
+lapses_of h g d e time lapsed.NoMemory may ends = none (IsLapse h time) h g d e ends
+
 pub lapses : (h g : History) (d e : Option Change) (time : ℕ) (end : Lapsed) → IsLawful h d → IsLawful g e → IsLapsed h d time end g e → AreSteps (IsCallBy d (IsLapse h time) (lapse_adds end)) h d g e
-lapses h g d e time (lapsed.Done place tid) before later ends = stands (IsLapse h time) h g d e (Lapse time tid) (tid, ends.0, refl) ends.1
-lapses h g d e time lapsed.Nothing before later ends = none (IsLapse h time) h g d e ends.1
-lapses h g d e time lapsed.Full before later ends = full (IsLapse h time) h g d e (Lapse time ends.0) (ends.0, ends.1, refl) ends.2.1 ends.2.2
-lapses h g d e time lapsed.DiskFault before later ends = in_doubt _ (IsLapse h time) h g d e (Lapse time ends.0) later.1 (ends.0, ends.1, refl) ends.2.0 ends.2.1
-lapses h g d e time lapsed.NoMemory before later ends = none (IsLapse h time) h g d e ends
+lapses h g d e time end before later ends = lapses_of h g d e time end (λ _. later.1) ends
+
+pub orders_of : (h g : History) (d e : Option Change) (order : Order) (time : ℕ) (end : Ordered) → (end ≡ ordered.DiskFault → IfSome e (Allowed g)) → IsOrdered h d order time end g e → AreSteps (IsCallBy d (IsOrder order time) (order_adds end)) h d g e
+orders_of h g d e order time (ordered.Done place) may ends = stands (IsOrder order time) h g d e ends.0.1.0 ends.0.1.1 ends.0.1.2
+orders_of h g d e order time ordered.NotHeld may ends = none (IsOrder order time) h g d e ends.1
+orders_of h g d e order time ordered.Full may ends = full (IsOrder order time) h g d e ends.1.0 ends.1.1 ends.1.2.1 ends.1.2.2
+orders_of h g d e order time ordered.DiskFault may ends = in_doubt _ (IsOrder order time) h g d e ends.1.0 (may refl) ends.1.1 ends.1.2.0 ends.1.2.1
+orders_of h g d e order time ordered.NoMemory may ends = none (IsOrder order time) h g d e ends
 
 pub orders : (h g : History) (d e : Option Change) (order : Order) (time : ℕ) (end : Ordered) → IsLawful h d → IsLawful g e → IsOrdered h d order time end g e → AreSteps (IsCallBy d (IsOrder order time) (order_adds end)) h d g e
-orders h g d e order time (ordered.Done place) before later ends = stands (IsOrder order time) h g d e ends.0.1.0 ends.0.1.1 ends.0.1.2
-orders h g d e order time ordered.NotHeld before later ends = none (IsOrder order time) h g d e ends.1
-orders h g d e order time ordered.Full before later ends = full (IsOrder order time) h g d e ends.1.0 ends.1.1 ends.1.2.1 ends.1.2.2
-orders h g d e order time ordered.DiskFault before later ends = in_doubt _ (IsOrder order time) h g d e ends.1.0 later.1 ends.1.1 ends.1.2.0 ends.1.2.1
-orders h g d e order time ordered.NoMemory before later ends = none (IsOrder order time) h g d e ends
+orders h g d e order time end before later ends = orders_of h g d e order time end (λ _. later.1) ends
 
 pub enlists : (h g : History) (d e : Option Change) (list : List Credential) (time : ℕ) (end : Listing) → IsLawful h d → IsLawful g e → IsEnlisted h d list time end g e → AreSteps (IsCallBy d (IsEnlisting list time) (listing_adds end)) h d g e
 enlists h g d e list time (listing.Done place) before later ends = stands (IsEnlisting list time) h g d e _ refl ends.1

@@ -1,3 +1,5 @@
 pub mod Leading
 mod Calls
 mod Stops
+mod Openings
+mod Shared

@@ -18,12 +18,12 @@ use Rattle.desk.specs.declared.verdict.Verdict.{Verdict}
 use Rattle.desk.specs.declared.verdict.Verdict.TheVariants as verdict
 use Rattle.desk.specs.Images.{DoubtOr}
 use Rattle.desk.specs.Due.{IsLapse}
-use Rattle.desk.specs.Calls.{IsOrder, IsLapsed, IsOrdered}
+use Rattle.desk.specs.Calls.{IsSame, IsOrder, IsLapsed, IsOrdered}
 use Rattle.desk.specs.Listings.{IsEnlisting, IsEnlisted, IsDismissal, IsDismissed}
 use Rattle.desk.specs.Verdicts.{LeftMakes, IsLeft}
 use Rattle.world_core.specs.declared.world.World.{World}
 use Rattle.world_core.specs.declared.world.Step.{Step}
-use Rattle.desk_steps.specs.Steps.{StandsFor, settling, adding, failing, StopsIn, IsLawful, AreSteps}
+use Rattle.desk_steps.specs.Steps.{StandsFor, IsStopped, settling, adding, failing, StopsIn, IsLawful, AreSteps}
 
 -- ---- the table of calls
 
@@ -80,6 +80,10 @@ IsDecidedBy d Own verdict.NoMemory ss = ss ≡ []
 
 -- ---- the laws
 
+-- What only reads, as a look and what is asked of a Grant, leaves history and doubt as they were, and is no step.
+abbrev pub LookedIsSteps : Type 0
+LookedIsSteps = (h g : History) (d e : Option Change) → IsSame h d g e → AreSteps (λ ss. ss ≡ []) h d g e
+
 abbrev pub DecidedIsSteps : Type 0
 DecidedIsSteps = (h g : History) (d e : Option Change) (k : Checked) (now : ℕ) (words : List ℕ) (v : Verdict) → IsLawful h d → IsLawful g e → IsLeft k now words h d v g e
     → AreSteps (IsDecidedBy d (LeftMakes h k now words) v) h d g e
@@ -104,4 +108,4 @@ DismissedIsSteps = (h g : History) (d e : Option Change) (kind : Kind) (kid : Li
 -- stop inside its steps leaves.
 abbrev pub StopIsSteps : Type 0
 StopIsSteps = (h k : History) (d : Option Change) (c : Change) (w : World) → StandsFor w h d → IfSome d (Allowed h) → Allowed h c
-    → (k ≡ h) ⊎ ((x : Change) × DoubtOr d (λ y. y ≡ c) x × (k ≡ h ++ x ∷ [])) → (v : World) × StopsIn w (adding d c) v × (v.durable ≡ k)
+    → (k ≡ h) ⊎ ((x : Change) × DoubtOr d (λ y. y ≡ c) x × (k ≡ h ++ x ∷ [])) → (v : World) × StopsIn w (adding d c) v × IsStopped v k

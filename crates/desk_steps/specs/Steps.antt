@@ -1,5 +1,5 @@
 -- What a desk stands for in the world, and where steps of the world lead it.
-use Rattle.std.specs.Prelude.{◌≡◌, ℕ, Bool, List, [], ◌∷◌, ◌++◌, length, take, Option, Some, None, IsTrue, IfSome}
+use Rattle.std.specs.Prelude.{◌≡◌, ℕ, Bool, false, List, [], ◌∷◌, ◌++◌, length, take, Option, Some, None, IsTrue, IfSome}
 use Rattle.deal_changes.specs.declared.change.Change.{Change}
 use Rattle.deal_model.specs.Views.{History}
 use Rattle.deal_model.specs.Rules.{Allowed, Legal}
@@ -16,6 +16,13 @@ pub record StandsFor (w : World) (h : History) (d : Option Change) : Type 0 wher
   pub pending : w.pending ≡ None
   pub doubt : w.doubt ≡ d
   pub acked : w.acked ≡ length h
+
+-- The service is stopped, and this history is durable; nothing is on its way or in doubt.
+pub record IsStopped (w : World) (h : History) : Type 0 where
+  pub down : w.up ≡ false
+  pub durable : w.durable ≡ h
+  pub pending : w.pending ≡ None
+  pub doubt : w.doubt ≡ None
 
 -- nothing is signed or sent
 pub record SendsNothing (w v : World) : Type 0 where

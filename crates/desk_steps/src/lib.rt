@@ -3,4 +3,4 @@
 
 mod laws;
 
-pub use laws::calls_are_steps;
+pub use laws::{calls_are_steps, openings_are_steps, shared_calls_are_steps, stops_are_steps};

@@ -1,6 +1,9 @@
-use Rattle.desk_steps.proofs.Calls.{decided, lapses, orders, enlists, dismisses}
+use Rattle.desk_steps.proofs.Calls.{looked, decided, lapses, orders, enlists, dismisses}
 use Rattle.desk_steps.proofs.Stops.{stop}
 use Rattle.desk_steps.proofs.laws.calls_are_steps.Goals as goal
+
+pub returns-clause-looked : goal.returns-clause-looked
+returns-clause-looked c = looked
 
 pub returns-clause-decided : goal.returns-clause-decided
 returns-clause-decided c = decided

@@ -1,0 +1,4 @@
+mod Lists
+mod Leaves
+mod Signing
+mod Replies
