@@ -16,23 +16,27 @@ use Rattle.cmp_ports.specs.declared.note.Outcome.{Outcome}
 use Rattle.cmp_ports.specs.declared.note.Outcome.TheVariants as outcome
 use Rattle.deal_changes.specs.declared.change.Change.{Change}
 use Rattle.deal_model.specs.Views.{History}
+use Rattle.deal_model.specs.Rules.{Allowed, Legal}
 use Rattle.deal_table.specs.History.{event_time}
 use Rattle.deal_table.specs.Message.{echo_of}
 use Rattle.deal_table.specs.Table.{Decision, Makes, Repeats, Refuses, Asks}
 use Rattle.desk.specs.declared.clerk.Clerk as clerks
 use Rattle.desk.specs.declared.desk.Desk.{Desk}
 use Rattle.desk.specs.Images.{RecoversWith, DoubtOr, MayCome}
+use Rattle.letter_laws.specs.Laws.{HasLetter}
 use Rattle.reply_maker.specs.Refusals.{refusal_of}
 use Rattle.reply_maker.specs.Replies.{Replier}
 use Rattle.front.specs.Answers.{ForLetter, IsDecision, IsAnswer, IsOwn, IsOutcome, after}
 use Rattle.front.specs.Clerks.{Held, Clerked, clerked, IsAlone}
-use Rattle.front.specs.Ends.{IsReply, IsDown, IsEntropyDown, IsIdle, IsUnanswered, IsReplyFor, IsEnd, failed_by, failed_in}
+use Rattle.front.specs.Ends.{IsReply, IsDown, IsSettled, IsEntropyDown, IsIdle, IsUnanswered, IsReplyFor, IsEnd, failed_by, failed_in}
 use Rattle.front.specs.Fronts.{Parts, replier_by, IsCounted, Own, IsFrontAnswer}
 use Rattle.front.specs.declared.device.Device.{Device}
+use Rattle.cmpca_tool.specs.Changes.{IsStep}
 use Rattle.cmpca_tool.specs.Lines.{line}
 use Rattle.cmpca_tool.specs.Takes.{EndsAs, Replies, Fails, RunsOut, OwnChange, Ends, EndsUndrawn, EndsBy}
 use Rattle.cmpca_tool.specs.Takings.{outcome_status, taken_status, taken_text, IsAnswering}
 use Rattle.cmpca_tool.specs.declared.status.Status.TheVariants.{Done, Refused, ReadFault, DiskFault}
+use Rattle.cmpca_tool.proofs.StepLemmas.{same_step, own_step}
 
 -- the status is that of what was decided
 ends_as : (what : Decision) (o : Outcome) (failed : Option Device) → IsOutcome what o → EndsAs what (outcome_status o failed)
@@ -96,6 +100,56 @@ module _ (k : Replier) (b : List ℕ) (old new : Clerked) (now : ℕ) where
   ends_by (Some w) answered.Failed reply alone r = absurd r
   ends_by None answered.Failed reply alone r = absurd r
 
+  -- ---- the step of the history
+
+  -- the message's own change, by the words
+  abbrev Mine : List ℕ → Change → Type 0
+  Mine w = IsOwn k b old.seen now w
+
+  -- the change in doubt is one's own, and may come next
+  abbrev Doubts : (Change → Type 0) → Type 0
+  Doubts P = IfSome new.doubt (MayCome P old.seen)
+
+  module _ (alone : IsAlone old) (letter : HasLetter b) (lawful : ∥ Legal new.seen × IfSome new.doubt (Allowed new.seen) ∥₁) where
+    -- by what was decided
+    decided_step : (w : List ℕ) (what : Decision) (o : Outcome) → Doubts (Mine w) → IsDecision k b old.seen now w what → IsOutcome what o → IsSettled o new.doubt → new.seen ≡ after old.seen what → IsStep (Mine w) old.seen new.seen new.doubt
+    decided_step w (Makes c) o may decided is settled grown = own_step k b old.seen new.seen new.doubt now w c letter lawful decided grown (subst (λ (x : Outcome). IsSettled x new.doubt) is settled)
+    decided_step w (Repeats place) o may decided is settled grown = same_step (Mine w) old.seen new.seen new.doubt grown may
+    decided_step w (Refuses fail to) o may decided is settled grown = same_step (Mine w) old.seen new.seen new.doubt grown may
+    decided_step w (Asks place) o may decided is settled grown = absurd is
+
+    reply_step : (w : List ℕ) (note : Note) (reply : List ℕ) → Doubts (Mine w) → IsReply k b old new now w note reply → IsStep (Mine w) old.seen new.seen new.doubt
+    reply_step w note reply may r =
+        let a = r.alone alone in
+        let what = r.answered.what in
+        decided_step w what note.outcome may (subst (λ (h : History). IsDecision k b h now w what) a.0 r.answered.decided) r.answered.outcome (r.settled alone) (a.1 ∙ ap (λ (h : History). after h what) a.0)
+
+    down_step : (P : Change → Type 0) (note : Note) (reply : List ℕ) → Doubts P → IsDown k b old new now note reply → IsStep P old.seen new.seen new.doubt
+    down_step P note reply may d = same_step P old.seen new.seen new.doubt (d.alone alone).1 may
+
+    idle_step : (P : Change → Type 0) → Doubts P → IsIdle old new → IsStep P old.seen new.seen new.doubt
+    idle_step P may i = same_step P old.seen new.seen new.doubt (i.alone alone) may
+
+    unanswered_step : (w : List ℕ) → IsUnanswered k b old new now w → IsStep (Mine w) old.seen new.seen new.doubt
+    unanswered_step w u =
+        let a = u.alone alone in
+        let c = u.made.change in
+        own_step k b old.seen new.seen new.doubt now w c letter lawful (subst (λ (h : History). IsOwn k b h now w c) a.0 u.made.decided) (a.1 ∙ ap (λ (h : History). h ++ c ∷ []) a.0) (u.settled alone)
+
+    words_step : (w : List ℕ) (note : Note) (reply : List ℕ) (o : Outcome) → Doubts (Mine w) → IsReplyFor k b old new now w note reply o → IsStep (Mine w) old.seen new.seen new.doubt
+    words_step w note reply outcome.Done may r = reply_step w note reply may r
+    words_step w note reply outcome.Again may r = reply_step w note reply may r
+    words_step w note reply (outcome.Refused fail) may r = reply_step w note reply may r
+    words_step w note reply outcome.SystemFailure may d = down_step (Mine w) note reply may d.down
+
+    end_step : (draw : Option (List ℕ)) (end : Answered) (reply : List ℕ) → Doubts (OwnChange k b now draw old.seen) → IsEnd k b old new now draw end reply → IsStep (OwnChange k b now draw old.seen) old.seen new.seen new.doubt
+    end_step (Some w) (answered.Replied note) reply may r = words_step w note reply note.outcome may r
+    end_step None (answered.Replied note) reply may d = down_step (λ c. ⊥) note reply may d.down
+    end_step (Some w) answered.NoMemory reply may r = ⊎_elim (idle_step (Mine w) may) (unanswered_step w) r.1
+    end_step None answered.NoMemory reply may r = idle_step (λ c. ⊥) may r.1
+    end_step (Some w) answered.Failed reply may r = absurd r
+    end_step None answered.Failed reply may r = absurd r
+
   -- ---- the faults of the devices
 
   disk_by : (w : List ℕ) (note : Note) (reply : List ℕ) (o : Outcome) → IsReplyFor k b old new now w note reply o → outcome_status o (failed_by o (Some w)) ≡ DiskFault → Rose old.faults new.faults
@@ -142,8 +196,8 @@ own_change : (k : Replier) (b : List ℕ) (h : History) (now : ℕ) (draw : Opti
 own_change k b h now (Some w) c own = own
 own_change k b h now None c own = own
 
-own_doubt : (k : Replier) (b : List ℕ) (h : History) (now : ℕ) (draw : Option (List ℕ)) (doubt : Option Change) (c : Change) → doubt ≡ None → DoubtOr doubt (MayCome (Own k b h now draw) h) c → OwnChange k b now draw h c
-own_doubt k b h now draw doubt c clear may = ⊎_elim (λ was. absurd (cc (clear, was))) (λ own. own_change k b h now draw c own.0) may
+own_doubt : (k : Replier) (b : List ℕ) (h : History) (now : ℕ) (draw : Option (List ℕ)) (doubt : Option Change) (c : Change) → doubt ≡ None → DoubtOr doubt (MayCome (Own k b h now draw) h) c → MayCome (OwnChange k b now draw h) h c
+own_doubt k b h now draw doubt c clear may = ⊎_elim (λ was. absurd (cc (clear, was))) (λ own. (own_change k b h now draw c own.0, own.1)) may
 
 if_some_weaker : {X : Type 0} (P Q : X → Type 0) (o : Option X) → ((x : X) → P x → Q x) → IfSome o P → IfSome o Q
 if_some_weaker P Q None less h = tt
@@ -163,14 +217,17 @@ module _ {K C E : Type 0} (ks : clerks.Ghosts K) (cs : clocks.Ghosts C) (es : en
   answering alone clear a =
       let k = replier_by old.keys in
       let h = ks.seen old.clerk in
+      let may : IfSome (ks.doubt new.clerk) (MayCome (OwnChange k b a.now a.drawn h) h) = if_some_weaker _ _ (ks.doubt new.clerk) (λ c mine. own_doubt k b h a.now a.drawn (ks.doubt old.clerk) c clear mine) (a.goes.doubt alone) in
       record {
         now = a.now;
         reading = a.reads;
         draw = a.drawn;
         drawn = a.draws;
+        letter = a.letter;
+        makes = end_step k b before later a.now alone a.letter a.goes.lawful a.drawn end reply may a.end_is;
         ends = subst (λ (f : Option Device). EndsBy k b a.now a.drawn h (taken_status end f) (taken_text end reply) (ks.seen new.clerk)) (sym a.failed) (ends_by k b before later a.now a.drawn end reply alone a.end_is);
-        doubt = if_some_weaker _ _ (ks.doubt new.clerk) (λ c may. own_doubt k b h a.now a.drawn (ks.doubt old.clerk) c clear may) (a.goes.doubt alone);
-        moments = weaker ks.moment ks.left_since old.clerk new.clerk (RecoversWith h (DoubtOr (ks.doubt old.clerk) (MayCome (Own k b h a.now a.drawn) h))) (RecoversWith h (OwnChange k b a.now a.drawn h)) (a.goes.moments alone)
+        doubt = if_some_weaker _ _ (ks.doubt new.clerk) (λ c own. own.0) may;
+        moments = weaker ks.moment ks.left_since old.clerk new.clerk (RecoversWith h (DoubtOr (ks.doubt old.clerk) (MayCome (Own k b h a.now a.drawn) h))) (RecoversWith h (MayCome (OwnChange k b a.now a.drawn h) h)) (a.goes.moments alone)
             (λ image left. ⊎_elim (λ was. inl was) (λ more. inr (more.0, own_doubt k b h a.now a.drawn (ks.doubt old.clerk) more.0 clear more.1, more.2)) left);
       }
 

@@ -18,7 +18,7 @@ use Rattle.deal_model.specs.Rules.{Allowed, Legal}
 use Rattle.reply_maker.specs.KeyFile.{IsKeyFile}
 use Rattle.desk.specs.Founded.{founding, IsBegun, IsPrepared}
 use Rattle.reply_maker.specs.declared.key_file.KeyFault.{KeyFault}
-use Rattle.reply_maker.specs.declared.key_file.KeyFault.TheVariants as keys
+use Rattle.reply_maker.specs.declared.key_file.KeyFault.TheVariants as faults
 use Rattle.reply_maker.specs.Keys.{Loaded, Gives, IsLoad, identity_of, are_blank}
 use Rattle.cmpca_tool.specs.declared.file.Unread.{Unread}
 use Rattle.cmpca_tool.specs.declared.file.Unread.TheVariants.{Bad}
@@ -26,11 +26,11 @@ use Rattle.cmpca_tool.specs.declared.file.Unread.TheVariants as unread
 use Rattle.cmpca_tool.specs.declared.status.Status.{Status}
 use Rattle.cmpca_tool.specs.declared.status.Status.TheVariants.{Done, Refused, DiskFault, NoMemory}
 use Rattle.cmpca_tool.specs.Changes.{DiskRun, IsUnchanged, run_of}
-use Rattle.cmpca_tool.specs.Deeds.{IsUnreadReply, IsCutShort, file_status, file_line}
+use Rattle.cmpca_tool.specs.Deeds.{IsUnreadReply}
 use Rattle.cmpca_tool.specs.Inits.{SaysSettings, IsUnset, IsUnloadedReply, IsUnfoundedReply, TellsFailure, founded_line, InitsRead, IsInitReply, IsFoundReply, WasFounded, IsCutOff, first_change, with_keys}
 use Rattle.cmpca_tool.specs.Lines.{line}
-use Rattle.cmpca_tool.specs.Reply.{RanKeyed, Replied}
-use Rattle.cmpca_tool.proofs.RunLemmas.{some_input, reformed}
+use Rattle.cmpca_tool.specs.Sources.{SourceRun, ToldBoth}
+use Rattle.cmpca_tool.proofs.RunLemmas.{some_input, short_read, short_memory}
 use Rattle.cmpca_tool.proofs.ShowLemmas.{told}
 use Rattle.cmpca_tool.proofs.InitLemmas.{may_found}
 
@@ -46,101 +46,87 @@ module _ {D : Type 0} (content : D → Option (List ℕ)) (images : D → List �
 -- ---- no settings were read
 
 -- an input that the source may have had, for which each such reply is right
-record IsInput (left : Option (List ℕ)) (u : Unread) : Type 1 where
+record IsInput (inputs : SourceRun) (left : Option (List ℕ)) (u : Unread) : Type 1 where
   input : List ℕ
   whole : IfSome left (λ all. all ≡ input)
-  replies : (disk : DiskRun) (now : ℕ) (key : List ℕ) (status : Status) (text : List ℕ) → IsUnchanged disk → IsUnreadReply u status text → IsInitReply disk now input key status text
+  replies : (disk : DiskRun) (keys : SourceRun) (now : ℕ) (key : List ℕ) (status : Status) (text : List ℕ) → IsUnchanged disk → keys.unread → IsUnreadReply u status text → IsInitReply disk inputs keys now input key status text
 
-said_fault : (left : Option (List ℕ)) (fault : RegFault) → SaysSettings left (Err fault) → IsInput left (Bad fault)
-said_fault left fault is = record {
+said_fault : (inputs : SourceRun) (left : Option (List ℕ)) (fault : RegFault) → SaysSettings left (Err fault) → IsInput inputs left (Bad fault)
+said_fault inputs left fault is = record {
   input = is.file;
   whole = is.whole;
-  replies = λ disk now key status text same r. ⊎_elim
-      (λ refused. inl (subst (λ (o : Result Settings RegFault). InitsRead o disk now key status text) (sym is.tells) (refused.0, refused.1, same)))
-      (λ short. inr (short, same)) r;
+  replies = λ disk keys now key status text same kept r. ⊎_elim
+      (λ refused. inl (subst (λ (o : Result Settings RegFault). InitsRead o disk keys now key status text) (sym is.tells) (refused.0, refused.1, same, kept)))
+      (λ none. inr (short_memory inputs.failed status text none.0 none.1, same, kept)) r;
 }
 
-no_memory_short : (status : Status) (text : List ℕ) → status ≡ file_status files.NoMemory → text ≡ file_line files.NoMemory → IsCutShort status text
-no_memory_short status text ends says = subst (λ (s : Status). IsCutShort s text) (sym ends) says
-
-input_of : (left : Option (List ℕ)) (u : Unread) → IsUnset left u → IsInput left u
-input_of left unread.ReadFault is = let i = some_input left in record { input = i.0; whole = i.1; replies = λ disk now key status text same short. inr (short, same) }
-input_of left (Bad files.NoMemory) is = let i = some_input left in
-    record { input = i.0; whole = i.1; replies = λ disk now key status text same r. inr (⊎_elim (λ said. no_memory_short status text said.0 said.1) (λ short. short) r, same) }
-input_of left (Bad files.BadToml) is = said_fault left files.BadToml (is (λ e. absurd (cc e)))
-input_of left (Bad files.BadCount) is = said_fault left files.BadCount (is (λ e. absurd (cc e)))
-input_of left (Bad (files.BadCredential index cause)) is = said_fault left (files.BadCredential index cause) (is (λ e. absurd (cc e)))
-input_of left (Bad (files.BadSetting key)) is = said_fault left (files.BadSetting key) (is (λ e. absurd (cc e)))
-
--- a file at fault says no settings
-pub no_settings : (left : Option (List ℕ)) (s : Settings) (file : List ℕ) (fault : RegFault) → SaysSettings left (Ok s) → left ≡ Some file → settings_in file ≡ Err fault → ⊥
-no_settings None s file fault says is bad = cc
-no_settings (Some all) s file fault says is bad =
-    let same : all ≡ file = cc is in
-    let whole : all ≡ says.file = says.whole in
-    let tells : settings_in says.file ≡ Ok s = says.tells in
-    let both : Ok s ≡ Err fault = sym tells ∙ ap settings_in (sym whole ∙ same) ∙ bad in
-    cc both
+input_of : (inputs : SourceRun) (left : Option (List ℕ)) (u : Unread) → (u ≡ unread.ReadFault → inputs.failed) → IsUnset left u → IsInput inputs left u
+input_of inputs left unread.ReadFault failed is = let i = some_input left in
+    record { input = i.0; whole = i.1; replies = λ disk keys now key status text same kept r. inr (short_read inputs.failed status text (failed refl) r.0 r.1, same, kept) }
+input_of inputs left (Bad files.NoMemory) failed is = let i = some_input left in
+    record { input = i.0; whole = i.1; replies = λ disk keys now key status text same kept r. inr (⊎_elim (λ said. short_memory inputs.failed status text said.0 said.1) (λ none. short_memory inputs.failed status text none.0 none.1) r, same, kept) }
+input_of inputs left (Bad files.BadToml) failed is = said_fault inputs left files.BadToml (is (λ e. absurd (cc e)))
+input_of inputs left (Bad files.BadCount) failed is = said_fault inputs left files.BadCount (is (λ e. absurd (cc e)))
+input_of inputs left (Bad (files.BadCredential index cause)) failed is = said_fault inputs left (files.BadCredential index cause) (is (λ e. absurd (cc e)))
+input_of inputs left (Bad (files.BadSetting key)) failed is = said_fault inputs left (files.BadSetting key) (is (λ e. absurd (cc e)))
 
 -- ---- the run
 
-pub ran_unset : (left key old new : Option (List ℕ)) (disk : DiskRun) (now : ℕ) (u : Unread) (status : Status) → IsUnset left u → IsUnchanged disk
-    → Replied (IsUnreadReply u) old new status → RanKeyed left key (IsInitReply disk now) old new status
-ran_unset left key old new disk now u status is same r =
-    let i = input_of left u is in
+pub told_unset : (left key : Option (List ℕ)) (disk : DiskRun) (inputs keys : SourceRun) (now : ℕ) (u : Unread) (status : Status) (text : List ℕ) → (u ≡ unread.ReadFault → inputs.failed) → IsUnset left u
+    → IsUnchanged disk → keys.unread → IsUnreadReply u status text → ToldBoth left key (IsInitReply disk inputs keys now) status text
+told_unset left key disk inputs keys now u status text failed is same kept r =
+    let i = input_of inputs left u failed is in
     let k = some_input key in
-    record {
-      input = i.input;
-      read = i.whole;
-      key = k.0;
-      key_read = k.1;
-      replied = reformed (IsUnreadReply u) (IsInitReply disk now i.input k.0) old new status (λ reply text said. i.replies disk now k.0 reply text same said) r;
-    }
+    record { input = i.input; read = i.whole; key = k.0; key_read = k.1; is_reply = i.replies disk keys now k.0 status text same kept r }
 
 -- with settings at hand
-unloaded_form : (key : Option (List ℕ)) (disk : DiskRun) (now : ℕ) (input : List ℕ) (s : Settings) (fault : KeyFault) (status : Status) (text : List ℕ) → settings_in input ≡ Ok s
-    → (load : IsLoad key s (Err fault)) → IsUnchanged disk → IsUnloadedReply fault status text → IsInitReply disk now input load.file status text
-unloaded_form key disk now input s keys.ReadFault status text tells load same said = inr (said, same)
-unloaded_form key disk now input s keys.NoMemory status text tells load same said = inr (said, same)
-unloaded_form key disk now input s keys.BadKeyFile status text tells load same said =
-    inl (subst (λ (o : Result Settings RegFault). InitsRead o disk now load.file status text) (sym tells) (inl (record { bad = load.gives; unchanged = same; ends = said.0; says = said.1 })))
-unloaded_form key disk now input s (keys.KeyMismatch told known) status text tells load same said = absurd said
+abbrev with_settings : (disk : DiskRun) (keys : SourceRun) (now : ℕ) (input : List ℕ) (s : Settings) (file : List ℕ) (status : Status) (text : List ℕ) → settings_in input ≡ Ok s
+    → InitsRead (Ok s) disk keys now file status text → InitsRead (settings_in input) disk keys now file status text
+with_settings disk keys now input s file status text tells read = subst (λ (o : Result Settings RegFault). InitsRead o disk keys now file status text) (sym tells) read
 
-pub ran_unloaded : (left key old new : Option (List ℕ)) (disk : DiskRun) (now : ℕ) (s : Settings) (fault : KeyFault) (status : Status) → SaysSettings left (Ok s) → IsLoad key s (Err fault)
-    → IsUnchanged disk → Replied (IsUnloadedReply fault) old new status → RanKeyed left key (IsInitReply disk now) old new status
-ran_unloaded left key old new disk now s fault status says load same r = record {
+unloaded_form : (key : Option (List ℕ)) (disk : DiskRun) (inputs keys : SourceRun) (now : ℕ) (input : List ℕ) (s : Settings) (fault : KeyFault) (status : Status) (text : List ℕ) → settings_in input ≡ Ok s
+    → (load : IsLoad key s (Err fault)) → (fault ≡ faults.ReadFault → keys.failed) → IsUnchanged disk → IsUnloadedReply fault status text → IsInitReply disk inputs keys now input load.file status text
+unloaded_form key disk inputs keys now input s faults.ReadFault status text tells load failed same said =
+    inl (with_settings disk keys now input s load.file status text tells (inr (inr (short_read keys.failed status text (failed refl) said.0 said.1, same))))
+unloaded_form key disk inputs keys now input s faults.NoMemory status text tells load failed same said =
+    inl (with_settings disk keys now input s load.file status text tells (inr (inr (short_memory keys.failed status text said.0 said.1, same))))
+unloaded_form key disk inputs keys now input s faults.BadKeyFile status text tells load failed same said =
+    inl (with_settings disk keys now input s load.file status text tells (inl (record { bad = load.gives; unchanged = same; ends = said.0; says = said.1 })))
+unloaded_form key disk inputs keys now input s (faults.KeyMismatch told known) status text tells load failed same said = absurd said
+
+pub told_unloaded : (left key : Option (List ℕ)) (disk : DiskRun) (inputs keys : SourceRun) (now : ℕ) (s : Settings) (fault : KeyFault) (status : Status) (text : List ℕ) → SaysSettings left (Ok s) → IsLoad key s (Err fault)
+    → (fault ≡ faults.ReadFault → keys.failed) → IsUnchanged disk → IsUnloadedReply fault status text → ToldBoth left key (IsInitReply disk inputs keys now) status text
+told_unloaded left key disk inputs keys now s fault status text says load failed same said = record {
   input = says.file;
   read = says.whole;
   key = load.file;
   key_read = load.read;
-  replied = reformed (IsUnloadedReply fault) (IsInitReply disk now says.file load.file) old new status
-      (λ reply text said. unloaded_form key disk now says.file s fault reply text says.tells load same said) r;
+  is_reply = unloaded_form key disk inputs keys now says.file s fault status text says.tells load failed same said;
 }
 
 -- nothing is compared where no keys are made
-pub no_mismatch : (key : Option (List ℕ)) (s : Settings) (fault : KeyFault) → are_blank s ≡ true → IsLoad key s (Err fault) → (told known : List ℕ) → fault ≢ keys.KeyMismatch told known
+pub no_mismatch : (key : Option (List ℕ)) (s : Settings) (fault : KeyFault) → are_blank s ≡ true → IsLoad key s (Err fault) → (told known : List ℕ) → fault ≢ faults.KeyMismatch told known
 no_mismatch key s fault blank load told known is =
-    let gives : Gives load.file s (Err (keys.KeyMismatch told known)) = subst (λ (f : KeyFault). Gives load.file s (Err f)) is load.gives in
+    let gives : Gives load.file s (Err (faults.KeyMismatch told known)) = subst (λ (f : KeyFault). Gives load.file s (Err f)) is load.gives in
     let never : true ≡ false = sym blank ∙ gives.1 in
     cc never
 
 -- with keys at hand
-founded_form : (key : Option (List ℕ)) (disk : DiskRun) (now : ℕ) (input : List ℕ) (s : Settings) (k : Loaded) (status : Status) (text : List ℕ) → settings_in input ≡ Ok s
-    → (load : IsLoad key s (Ok k)) → IsFoundReply disk (identity_of k.file k.settings) (first_change k.file s now) status text → IsInitReply disk now input load.file status text
-founded_form key disk now input s k status text tells load found =
+founded_form : (key : Option (List ℕ)) (disk : DiskRun) (inputs keys : SourceRun) (now : ℕ) (input : List ℕ) (s : Settings) (k : Loaded) (status : Status) (text : List ℕ) → settings_in input ≡ Ok s
+    → (load : IsLoad key s (Ok k)) → IsFoundReply disk (identity_of k.file k.settings) (first_change k.file s now) status text → IsInitReply disk inputs keys now input load.file status text
+founded_form key disk inputs keys now input s k status text tells load found =
     let same : k ≡ record { file = load.file; settings = s } = load.gives.2 in
-    inl (subst (λ (o : Result Settings RegFault). InitsRead o disk now load.file status text) (sym tells)
-    (inr (load.gives.0, subst (λ (l : Loaded). IsFoundReply disk (identity_of l.file l.settings) (first_change l.file s now) status text) same found)))
+    inl (with_settings disk keys now input s load.file status text tells
+    (inr (inl (load.gives.0, subst (λ (l : Loaded). IsFoundReply disk (identity_of l.file l.settings) (first_change l.file s now) status text) same found))))
 
-pub ran_found : (left key old new : Option (List ℕ)) (disk : DiskRun) (now : ℕ) (s : Settings) (k : Loaded) (status : Status) → SaysSettings left (Ok s) → IsLoad key s (Ok k)
-    → Replied (IsFoundReply disk (identity_of k.file k.settings) (first_change k.file s now)) old new status → RanKeyed left key (IsInitReply disk now) old new status
-ran_found left key old new disk now s k status says load r = record {
+pub told_found : (left key : Option (List ℕ)) (disk : DiskRun) (inputs keys : SourceRun) (now : ℕ) (s : Settings) (k : Loaded) (status : Status) (text : List ℕ) → SaysSettings left (Ok s) → IsLoad key s (Ok k)
+    → IsFoundReply disk (identity_of k.file k.settings) (first_change k.file s now) status text → ToldBoth left key (IsInitReply disk inputs keys now) status text
+told_found left key disk inputs keys now s k status text says load found = record {
   input = says.file;
   read = says.whole;
   key = load.file;
   key_read = load.read;
-  replied = reformed (IsFoundReply disk (identity_of k.file k.settings) (first_change k.file s now)) (IsInitReply disk now says.file load.file) old new status
-      (λ reply text found. founded_form key disk now says.file s k reply text says.tells load found) r;
+  is_reply = founded_form key disk inputs keys now says.file s k status text says.tells load found;
 }
 
 -- ---- what becomes of the disk
@@ -163,7 +149,7 @@ one_legal c allowed = (λ e. cc, (allowed, tt))
 tells_disk : (status : Status) (text : List ℕ) → status ≡ DiskFault → text ≡ line (codes "disk fault") → TellsFailure status text
 tells_disk status text ends says = subst (λ (s : Status). TellsFailure s text) (sym ends) says
 
-tells_memory : (status : Status) (text : List ℕ) → status ≡ NoMemory → text ≡ line (codes "no memory") → TellsFailure status text
+pub tells_memory : (status : Status) (text : List ℕ) → status ≡ NoMemory → text ≡ line (codes "no memory") → TellsFailure status text
 tells_memory status text ends says = subst (λ (s : Status). TellsFailure s text) (sym ends) says
 
 -- what holds of a content that isn't founded, since it is
@@ -177,10 +163,11 @@ spares (Some g) f is h founded = let same : g ≡ f = cc is in h (ap is_founded 
 
 module _ {D : Type 0} (content : D → Option (List ℕ)) (images : D → List ℕ → Type 0) (moment : D → ℕ) (left_since : D → ℕ → List ℕ → Type 0) where
   -- a run that was cut off on a disk that isn't founded
-  pub cut_off : (old new : D) (c : Change) (status : Status) (text : List ℕ) → ((f : List ℕ) → content old ≡ Some f → is_founded f ≡ false)
+  pub cut_off : (old new : D) (c : Change) (status : Status) (text : List ℕ) → Allowed [] c → ((f : List ℕ) → content old ≡ Some f → is_founded f ≡ false)
       → LeavesOnly moment left_since old new (IsBegun (images old) (spelling c)) → TellsFailure status text → IsCutOff (run_of content images moment left_since old new) c status text
-  cut_off old new c status text free moments says = record {
+  cut_off old new c status text first free moments says = record {
     spared = told (content old) (λ f. is_founded f ≡ true → IsUnchanged (run_of content images moment left_since old new)) (λ f is founded. not_both f _ (free f is) founded);
+    first = first;
     moments = moments;
     says = says;
   }
@@ -222,6 +209,7 @@ module _ {D : Type 0} (content : D → Option (List ℕ)) (images : D → List �
         }))
         (λ cut. inr (record {
           spared = told (content old) (λ f. is_founded f ≡ true → IsUnchanged (run_of content images moment left_since old new)) (λ f is founded. unchanged (spares (content mid) f (same ∙ is) cut.spared founded));
+          first = cut.first;
           moments = longer c cut.moments;
           says = cut.says;
         }))
@@ -239,12 +227,13 @@ module _ {D : Type 0} (content : D → Option (List ℕ)) (images : D → List �
     says = says;
   }
 
-  pub not_looked : (old new : D) (c : Change) → content new ≡ content old → Among (images old) (images new) → LeavesOnly moment left_since old new (images old)
-      → IsCutOff (run_of content images moment left_since old new) c DiskFault (line (codes "disk fault"))
-  not_looked old new c same crash looking = record {
+  pub not_looked : (old new : D) (c : Change) (status : Status) (text : List ℕ) → Allowed [] c → content new ≡ content old → Among (images old) (images new) → LeavesOnly moment left_since old new (images old)
+      → status ≡ DiskFault → text ≡ line (codes "disk fault") → IsCutOff (run_of content images moment left_since old new) c status text
+  not_looked old new c status text first same crash looking ends says = record {
     spared = told (content old) (λ f. is_founded f ≡ true → IsUnchanged (run_of content images moment left_since old new)) (λ f is founded. record { content = same; crash = crash; moments = looking });
+    first = first;
     moments = weaker moment left_since old new (images old) (IsBegun (images old) (spelling c)) looking (λ image left. inl left);
-    says = refl;
+    says = tells_disk status text ends says;
   }
 
 -- ---- the same over a disk that is lent to the desk by a reference
@@ -254,52 +243,51 @@ module _ {D R : Type 0} (now : R → D) (content : D → Option (List ℕ)) (ima
   lent : (old new : R) (P : List ℕ → Type 0) → LeavesOnly (λ r. moment (now r)) (λ r t. left_since (now r) t) old new P → LeavesOnly moment left_since (now old) (now new) P
   lent old new P left = record { later = left.later; each = left.each; before = left.before }
 
-  pub has_founded : (old new : R) (last : D) (identity text : List ℕ) (c : Change) (h : History) (e : Option Change) → now new ≡ last
+  pub has_founded : (old new : R) (last : D) (identity : List ℕ) (c : Change) (h : History) (e : Option Change) (status : Status) (text : List ℕ) → now new ≡ last
       → ((f : List ℕ) → content (now old) ≡ Some f → is_founded f ≡ false) → Allowed [] c → h ≡ c ∷ [] → e ≡ None → Images (images (now new)) h e
       → LeavesOnly (λ r. moment (now r)) (λ r t. left_since (now r) t) old new (IsBegun (images (now old)) (spelling c))
-      → text ≡ founded_line identity → IsFoundReply (run_of content images moment left_since (now old) last) identity c Done text
-  has_founded old new last identity text c h e back free allowed is none stand moments says =
+      → status ≡ Done → text ≡ founded_line identity → IsFoundReply (run_of content images moment left_since (now old) last) identity c status text
+  has_founded old new last identity c h e status text back free allowed is none stand moments ends says =
       let holds = one_recovers (images (now new)) h e c is none stand in
-      subst (λ (d : D). IsFoundReply (run_of content images moment left_since (now old) d) identity c Done text) back (inl (record {
+      subst (λ (d : D). IsFoundReply (run_of content images moment left_since (now old) d) identity c status text) back (inl (record {
         free = told (content (now old)) (λ f. is_founded f ≡ false) free;
         content = told (content (now new)) (λ f. Recovers f (c ∷ [])) (λ f is_content. holds f (honest (now new) f is_content));
         images = holds;
         lawful = one_legal c allowed;
         moments = lent old new (IsBegun (images (now old)) (spelling c)) moments;
-        ends = refl;
+        ends = ends;
         says = says;
       }))
 
   -- by the fault of founding
-  unfounded_at : (old new : R) (identity text : List ℕ) (c : Change) (fault : FoundFault) (status : Status)
+  unfounded_at : (old new : R) (identity text : List ℕ) (c : Change) (fault : FoundFault) (status : Status) → Allowed [] c
       → ((f : List ℕ) → content (now old) ≡ Some f → is_founded f ≡ false)
       → ((f : List ℕ) → content (now old) ≡ Some f → IsPrepared {T = Unit {0}} f (Err fault))
       → (fault ≡ founds.Already → content (now new) ≡ content (now old)) → (fault ≡ founds.Already → Among (images (now old)) (images (now new)))
       → (fault ≡ founds.Already → LeavesOnly (λ r. moment (now r)) (λ r t. left_since (now r) t) old new (images (now old)))
       → LeavesOnly (λ r. moment (now r)) (λ r t. left_since (now r) t) old new (IsBegun (images (now old)) (spelling c))
       → IsUnfoundedReply fault status text → IsFoundReply (run_of content images moment left_since (now old) (now new)) identity c status text
-  unfounded_at old new identity text c founds.Already status free prepared same crash untouched moments said = inr (inl (record {
+  unfounded_at old new identity text c founds.Already status first free prepared same crash untouched moments said = inr (inl (record {
     founded = told (content (now old)) (λ f. is_founded f ≡ true) prepared;
     unchanged = record { content = same refl; crash = crash refl; moments = lent old new (images (now old)) (untouched refl) };
     ends = said.0;
     says = said.1;
   }))
-  unfounded_at old new identity text c founds.DiskFault status free prepared same crash untouched moments said =
-      inr (inr (cut_off content images moment left_since (now old) (now new) c status text free (lent old new (IsBegun (images (now old)) (spelling c)) moments) (tells_disk status text said.0 said.1)))
-  unfounded_at old new identity text c founds.NoMemory status free prepared same crash untouched moments said =
-      inr (inr (cut_off content images moment left_since (now old) (now new) c status text free (lent old new (IsBegun (images (now old)) (spelling c)) moments) (tells_memory status text said.0 said.1)))
+  unfounded_at old new identity text c founds.DiskFault status first free prepared same crash untouched moments said =
+      inr (inr (cut_off content images moment left_since (now old) (now new) c status text first free (lent old new (IsBegun (images (now old)) (spelling c)) moments) (tells_disk status text said.0 said.1)))
+  unfounded_at old new identity text c founds.NoMemory status first free prepared same crash untouched moments said =
+      inr (inr (cut_off content images moment left_since (now old) (now new) c status text first free (lent old new (IsBegun (images (now old)) (spelling c)) moments) (tells_memory status text said.0 said.1)))
 
-  pub unfounded : (old new : R) (last : D) (identity : List ℕ) (c : Change) (fault : FoundFault) (before after : Option (List ℕ)) (status : Status) → now new ≡ last
+  pub unfounded : (old new : R) (last : D) (identity : List ℕ) (c : Change) (fault : FoundFault) (status : Status) (text : List ℕ) → now new ≡ last → Allowed [] c
       → ((f : List ℕ) → content (now old) ≡ Some f → is_founded f ≡ false)
       → ((f : List ℕ) → content (now old) ≡ Some f → IsPrepared {T = Unit {0}} f (Err fault))
       → (fault ≡ founds.Already → content (now new) ≡ content (now old)) → (fault ≡ founds.Already → Among (images (now old)) (images (now new)))
       → (fault ≡ founds.Already → LeavesOnly (λ r. moment (now r)) (λ r t. left_since (now r) t) old new (images (now old)))
       → LeavesOnly (λ r. moment (now r)) (λ r t. left_since (now r) t) old new (IsBegun (images (now old)) (spelling c))
-      → Replied (IsUnfoundedReply fault) before after status → Replied (IsFoundReply (run_of content images moment left_since (now old) last) identity c) before after status
-  unfounded old new last identity c fault before after status back free prepared same crash untouched moments r =
-      reformed (IsUnfoundedReply fault) (IsFoundReply (run_of content images moment left_since (now old) last) identity c) before after status
-      (λ reply text said. subst (λ (d : D). IsFoundReply (run_of content images moment left_since (now old) d) identity c reply text) back
-      (unfounded_at old new identity text c fault reply free prepared same crash untouched moments said)) r
+      → IsUnfoundedReply fault status text → IsFoundReply (run_of content images moment left_since (now old) last) identity c status text
+  unfounded old new last identity c fault status text back first free prepared same crash untouched moments said =
+      subst (λ (d : D). IsFoundReply (run_of content images moment left_since (now old) d) identity c status text) back
+      (unfounded_at old new identity text c fault status first free prepared same crash untouched moments said)
 
 -- ---- the change that founds it
 

@@ -4,6 +4,7 @@ pub mod CauseLemmas
 pub mod ShowLemmas
 mod FileLemmas
 mod ChangeLemmas
+mod StepLemmas
 mod EnlistLemmas
 mod FoundLemmas
 mod InitLemmas

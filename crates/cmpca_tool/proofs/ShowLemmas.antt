@@ -6,8 +6,11 @@ use Rattle.journal_core.specs.declared.fault.MountFault.TheVariants as mounts
 use Rattle.deal_model.specs.Views.{History}
 use Rattle.deal_model.specs.Rules.{Legal}
 use Rattle.deal_lines.specs.Lines.{lines_of}
+use Rattle.cmp_ports.specs.Disk.{Every}
+use Rattle.desk.specs.Images.{Recovers}
 use Rattle.desk.specs.Mounts.{Stands, Refuses}
 use Rattle.desk_laws.specs.Answers.{Holds}
+use Rattle.cmpca_tool.specs.Changes.{DiskRun}
 use Rattle.cmpca_tool.specs.Mounts.{IsUnmounted, IsAnswer, fault_status, fault_line}
 use Rattle.cmpca_tool.specs.Reply.{IsShowReply}
 use Rattle.cmpca_tool.specs.declared.status.Status.{Status}
@@ -31,14 +34,12 @@ unmounted one f (mounts.Damaged at) refused = answer one f (Err (mounts.Damaged 
 unmounted one f mounts.DiskFault refused = tt
 unmounted one f mounts.NoMemory refused = tt
 
--- the reply where the disk is not mounted
-pub fault_reply : OneAnswer → (content : Option (List ℕ)) (fault : MountFault) (status : Status) (text : List ℕ)
-    → ((f : List ℕ) → content ≡ Some f → Refuses f fault) → status ≡ fault_status fault → text ≡ fault_line fault → IsShowReply content status text
-fault_reply one content fault status text refuses ends says =
-    inr record { fault = fault; unmounted = told content (λ f. IsUnmounted f fault) (λ f e. unmounted one f fault (refuses f e)); ends = ends; says = says }
-
 -- the reply where it is
-pub lines_reply : OneAnswer → (content : Option (List ℕ)) (history : History) (text : List ℕ) → ((f : List ℕ) → content ≡ Some f → Stands f history)
-    → Legal history → text ≡ lines_of history → IsShowReply content Done text
-lines_reply one content history text stands legal says =
-    inl record { history = history; legal = legal; mounted = told content (λ f. IsAnswer f (Ok history)) (λ f e. answer one f (Ok history) (stands f e)); ends = refl; says = says }
+pub lines_reply : OneAnswer → (disk : DiskRun) (history : History) (status : Status) (text : List ℕ) → ((f : List ℕ) → disk.content_before ≡ Some f → Stands f history)
+    → Every disk.images_after (λ f. Recovers f history) → Legal history → status ≡ Done → text ≡ lines_of history → IsShowReply disk status text
+lines_reply one disk history status text stands images legal ends says =
+    inl record { history = history; legal = legal; mounted = told disk.content_before (λ f. IsAnswer f (Ok history)) (λ f e. answer one f (Ok history) (stands f e)); images = images; ends = ends; says = says }
+
+-- the reply where memory runs out
+pub no_memory_reply : (disk : DiskRun) (status : Status) (text : List ℕ) → status ≡ fault_status mounts.NoMemory → text ≡ fault_line mounts.NoMemory → IsShowReply disk status text
+no_memory_reply disk status text ends says = inr record { fault = mounts.NoMemory; unmounted = told disk.content_before (λ f. IsUnmounted f mounts.NoMemory) (λ f e. tt); ends = ends; says = says }

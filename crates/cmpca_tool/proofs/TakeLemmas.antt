@@ -1,7 +1,7 @@
 -- The reply of take, from what the mount, the keys, the front and the writing of its answer say.
-use Rattle.std.proofs.Common.{◌≡◌, ◌⊎◌, inl, inr, ⊎_elim, ℕ, ◌+◌, ◌≤◌, List, [], ◌∷◌, length, take, Option, Some, None, refl, sym, ◌∙◌, ap, subst, arith}
+use Rattle.std.proofs.Common.{◌≡◌, ◌⊎◌, inl, inr, ⊎_elim, ℕ, ◌+◌, ◌≤◌, List, [], ◌∷◌, length, take, Option, Some, None, true, refl, sym, ◌∙◌, ap, subst, arith}
 use Rattle.std.specs.Prelude.{Ok, Err, IfSome, slice_get}
-use Rattle.cmp_ports.specs.Disk.{Among, LeavesOnly}
+use Rattle.cmp_ports.specs.Disk.{Among, Every, LeavesOnly}
 use Rattle.journal_core.specs.declared.fault.MountFault.{MountFault}
 use Rattle.std.proofs.Math.Logic.{∥∥₁_elim}
 use Rattle.std.proofs.Props.{props}
@@ -13,7 +13,7 @@ use Rattle.deal_changes.specs.declared.change.Change.TheVariants.{Found, Enlist,
 use Rattle.deal_model.specs.Views.{History, founding_in, settings_of}
 use Rattle.deal_model.specs.Rules.{IsOwnKey, Allowed, Legal}
 use Rattle.deal_table.specs.History.{IsFounded}
-use Rattle.desk.specs.Images.{RecoversWith, Images}
+use Rattle.desk.specs.Images.{Recovers, Images}
 use Rattle.desk.specs.Mounts.{Stands, Refuses}
 use Rattle.desk.proofs.LookLemmas.{founded_out}
 use Rattle.pki_message.specs.Frame.{message_limit}
@@ -22,16 +22,17 @@ use Rattle.reply_maker.specs.Replies.{Replier, replier_of}
 use Rattle.reply_maker.specs.declared.key_file.KeyFault.{KeyFault}
 use Rattle.reply_maker.specs.declared.key_file.KeyFault.TheVariants as keys
 use Rattle.cmpca_tool.specs.Mounts.{IsAnswer, IsFaultReply}
-use Rattle.cmpca_tool.specs.Changes.{IsUnchanged, IsChanged, run_of}
-use Rattle.cmpca_tool.specs.Reply.{Wrote, Replied, RanKeyed}
+use Rattle.cmpca_tool.specs.Changes.{IsUnchanged, run_of}
+use Rattle.cmpca_tool.specs.Sources.{Devices, ToldBoth}
 use Rattle.cmpca_tool.specs.Takes.{message_in, replier_at, IsOwnFile, IsUnread, Takes, IsTaken, IsTakeReply}
-use Rattle.cmpca_tool.specs.Takings.{IsKeyReply, IsWhyUntaken, IsUntakenReply, IsAnswering}
+use Rattle.cmpca_tool.specs.Takings.{IsKeyReply, IsWhyUntaken, is_keyless, IsUntakenReply, IsAnswering}
 use Rattle.cmpca_tool.specs.declared.take.Untaken.{Untaken}
 use Rattle.cmpca_tool.specs.declared.take.Untaken.TheVariants as untaken
 use Rattle.cmpca_tool.specs.declared.status.Status.{Status}
-use Rattle.cmpca_tool.proofs.RunLemmas.{some_input, replied, reformed, keyed_any}
+use Rattle.cmpca_tool.specs.declared.status.Status.TheVariants.{ReadFault}
+use Rattle.cmpca_tool.proofs.RunLemmas.{some_input, short_read, short_memory}
 use Rattle.cmpca_tool.proofs.ShowLemmas.{OneAnswer, told, answer}
-use Rattle.cmpca_tool.proofs.ChangeLemmas.{told_unmounted, lent, changed_run}
+use Rattle.cmpca_tool.proofs.ChangeLemmas.{lent, gave_back, acted}
 
 -- ---- the settings of a history
 
@@ -107,6 +108,9 @@ read_message (Some all) octets short read = (all, refl, read)
 
 -- ---- the key file
 
+no_fault : keys.NoMemory ≡ keys.ReadFault → ⊥
+no_fault e = cc e
+
 -- why no keys were loaded, or want of memory
 given_told : (file : List ℕ) (s : Settings) (fault told : KeyFault) → Gives file s (Err fault) → (told ≡ fault) ⊎ (told ≡ keys.NoMemory) → Gives file s (Err told)
 given_told file s fault told given is = ⊎_elim
@@ -114,9 +118,22 @@ given_told file s fault told given is = ⊎_elim
     (λ none. subst (λ (f : KeyFault). Gives file s (Err f)) (sym none) tt)
     is
 
-pub keyless : (file : List ℕ) (s : Settings) (h : History) (fault : KeyFault) (status : Status) (text : List ℕ) → s ≡ settings_of h → Gives file s (Err fault) → IsKeyReply fault status text → IsUnread file h status text
-keyless file s h fault status text same given r =
-    inl record { fault = r.told; given = subst (λ (x : Settings). Gives file x (Err r.told)) same (given_told file s fault r.told given r.is_told); ends = r.ends; says = r.says }
+-- the reply tells the fault; want of memory is no fault of reading
+told_failed : (Failed : Type 0) (fault told : KeyFault) → (fault ≡ keys.ReadFault → Failed) → (told ≡ fault) ⊎ (told ≡ keys.NoMemory) → told ≡ keys.ReadFault → Failed
+told_failed Failed fault told failed is e = ⊎_elim (λ same. failed (sym same ∙ e)) (λ none. absurd (no_fault (sym none ∙ e))) is
+
+pub keyless : (devices : Devices) (file : List ℕ) (s : Settings) (h : History) (fault : KeyFault) (status : Status) (text : List ℕ) → (fault ≡ keys.ReadFault → devices.key.failed) → devices.input.unread
+    → s ≡ settings_of h → Gives file s (Err fault) → IsKeyReply fault status text → IsUnread devices file h status text
+keyless devices file s h fault status text failed kept same given r = inl (
+  record {
+    fault = r.told;
+    given = subst (λ (x : Settings). Gives file x (Err r.told)) same (given_told file s fault r.told given r.is_told);
+    failed = told_failed devices.key.failed fault r.told failed r.is_told;
+    ends = r.ends;
+    says = r.says;
+  },
+  kept,
+)
 
 pub own_file : (file : List ℕ) (s : Settings) (h : History) (keys : Loaded) → s ≡ settings_of h → Gives file s (Ok keys) → IsOwnFile file h
 own_file file s h keys same given = record { form = given.0; agrees = subst (λ (x : Settings). Agrees file x) same given.1 }
@@ -128,20 +145,33 @@ pub own_settings : (file : List ℕ) (s : Settings) (h : History) (keys : Loaded
 own_settings file s h keys same given = sym same ∙ ap (λ (k : Loaded). k.settings) (sym given.2)
 
 -- a key file that the source may have had, for which each such reply is right
-pub record IsKeyOf (left : Option (List ℕ)) (h : History) (u : Untaken) : Type 0 where
+pub record IsKeyOf (devices : Devices) (left : Option (List ℕ)) (h : History) (u : Untaken) : Type 0 where
   pub file : List ℕ
   pub whole : IfSome left (λ all. all ≡ file)
-  pub replies : (status : Status) (text : List ℕ) → IsUntakenReply u status text → IsUnread file h status text
+  pub replies : (status : Status) (text : List ℕ) → IsUntakenReply u status text → IsUnread devices file h status text
 
-pub untaken_key : (left : Option (List ℕ)) (s : Settings) (h : History) (u : Untaken) → s ≡ settings_of h → IsWhyUntaken left s u → IsKeyOf left h u
-untaken_key left s h (untaken.Keyless fault) same is = record { file = is.file; whole = is.read; replies = λ status text r. keyless is.file s h fault status text same is.gives r }
-untaken_key left s h untaken.ReadFault same is = record { file = is.1.file; whole = is.1.read; replies = λ status text r. inr (own_file is.1.file s h is.0 same is.1.gives, r) }
-untaken_key left s h untaken.NoMemory same is = record { file = is.1.file; whole = is.1.read; replies = λ status text r. inr (own_file is.1.file s h is.0 same is.1.gives, r) }
+-- what failed, and what wasn't read, where there is no message to answer
+pub record AreFaults (devices : Devices) (u : Untaken) : Type 0 where
+  pub key : u ≡ untaken.Keyless keys.ReadFault → devices.key.failed
+  pub input : u ≡ untaken.ReadFault → devices.input.failed
+  pub unread : is_keyless u ≡ true → devices.input.unread
 
--- a source that tells its octets has no other file
-pub no_other : (left : Option (List ℕ)) (s : Settings) (keys : Loaded) (file : List ℕ) → IsLoad left s (Ok keys) → left ≡ Some file → Gives file s (Ok keys)
-no_other None s keys file is e = absurd (none-some file e)
-no_other (Some all) s keys file is e = subst (λ (f : List ℕ). Gives f s (Ok keys)) (sym is.read ∙ same_Some all file e) is.gives
+pub untaken_key : (devices : Devices) (left : Option (List ℕ)) (s : Settings) (h : History) (u : Untaken) → s ≡ settings_of h → AreFaults devices u → IsWhyUntaken left s u → IsKeyOf devices left h u
+untaken_key devices left s h (untaken.Keyless fault) same faults is = record {
+  file = is.file;
+  whole = is.read;
+  replies = λ status text r. keyless devices is.file s h fault status text (λ e. faults.key (ap untaken.Keyless e)) (faults.unread refl) same is.gives r;
+}
+untaken_key devices left s h untaken.ReadFault same faults is = record {
+  file = is.1.file;
+  whole = is.1.read;
+  replies = λ status text r. inr (own_file is.1.file s h is.0 same is.1.gives, short_read devices.input.failed status text (faults.input refl) r.0 r.1);
+}
+untaken_key devices left s h untaken.NoMemory same faults is = record {
+  file = is.1.file;
+  whole = is.1.read;
+  replies = λ status text r. inr (own_file is.1.file s h is.0 same is.1.gives, short_memory devices.input.failed status text r.0 r.1);
+}
 
 -- ---- the run, over a disk that is lent to the desk by a reference
 
@@ -153,85 +183,93 @@ module _ {D R : Type 0} (now : R → D) (content : D → Option (List ℕ)) (ima
       subst (λ (d : D). IsUnchanged (run_of content images moment left_since (now old) d)) (ap now stays ∙ back)
       (record { content = same; crash = crash; moments = lent now content images moment left_since honest old mid (images (now old)) moments })
 
+  -- where nothing is in doubt, each image recovers to the history
+  only_history : (images : List ℕ → Type 0) (h : History) (d : Option Change) → d ≡ None → Images images h d → Every images (λ f. Recovers f h)
+  only_history images h d clear stand image is = ⊎_elim (λ was. was) (λ more. absurd (cc (clear, more.1))) (stand image is)
+
   -- no message was answered
-  pub unread_run : OneAnswer → (old mid : R) (last : D) (Unused : Type 0) (IsReading : ℕ → Type 0) (IsDraw : Option (List ℕ) → Type 0) (h : History) (s : Settings) (u : Untaken) (left key before after : Option (List ℕ)) (status : Status)
+  pub unread_run : OneAnswer → (old mid : R) (last : D) (devices : Devices) (IsReading : ℕ → Type 0) (IsDraw : Option (List ℕ) → Type 0) (h : History) (d : Option Change) (s : Settings) (u : Untaken) (left key : Option (List ℕ)) (status : Status) (text : List ℕ)
       → now mid ≡ last
       → ((f : List ℕ) → content (now old) ≡ Some f → Stands f h)
       → content (now mid) ≡ content (now old) → Among (images (now old)) (images (now mid))
       → LeavesOnly (λ r. moment (now r)) (λ r t. left_since (now r) t) old mid (images (now old))
-      → Unused → s ≡ settings_of h → IsWhyUntaken key s u
-      → Replied (IsUntakenReply u) before after status
-      → RanKeyed left key (IsTakeReply (run_of content images moment left_since (now old) last) Unused IsReading IsDraw) before after status
-  unread_run one old mid last Unused IsReading IsDraw h s u left key before after status back stands same crash mounting unused known why r =
+      → d ≡ None → Images (images (now mid)) h d
+      → devices.unused → AreFaults devices u → s ≡ settings_of h → IsWhyUntaken key s u
+      → IsUntakenReply u status text
+      → ToldBoth left key (IsTakeReply (run_of content images moment left_since (now old) last) devices IsReading IsDraw) status text
+  unread_run one old mid last devices IsReading IsDraw h d s u left key status text back stands same crash mounting clear stand unused faults known why is =
       let i = some_input left in
-      let k = untaken_key key s h u known why in
+      let k = untaken_key devices key s h u known faults why in
       record {
         input = i.0;
         read = i.1;
         key = k.file;
         key_read = k.whole;
-        replied = reformed (IsUntakenReply u) _ before after status
-            (λ reply text is. inr (inl (
-              record {
-                history = h;
-                mounted = told (content (now old)) (λ f. IsAnswer f (Ok h)) (λ f tells. answer one f (Ok h) (stands f tells));
-                unchanged = unchanged_by old mid mid last back refl same crash mounting;
-                cause = k.replies reply text is;
-              },
-              unused,
-            ))) r;
+        is_reply = inr (inl (
+          record {
+            history = h;
+            mounted = told (content (now old)) (λ f. IsAnswer f (Ok h)) (λ f tells. answer one f (Ok h) (stands f tells));
+            unchanged = unchanged_by old mid mid last back refl same crash mounting;
+            images = subst (λ (x : D). Every (images x) (λ f. Recovers f h)) back (only_history (images (now mid)) h d clear stand);
+            cause = k.replies status text is;
+          },
+          unused,
+        ));
       }
 
   -- one was
-  pub taken_run : OneAnswer → (old mid new : R) (last : D) (Unused : Type 0) (IsReading : ℕ → Type 0) (IsDraw : Option (List ℕ) → Type 0) (h g : History) (e : Option Change) (s : Settings) (keys : Loaded) (octets : List ℕ) (ends : Status) (says : List ℕ) (left key before after : Option (List ℕ)) (status : Status)
+  pub taken_run : OneAnswer → (old mid new : R) (last : D) (devices : Devices) (IsReading : ℕ → Type 0) (IsDraw : Option (List ℕ) → Type 0) (h g : History) (e : Option Change) (s : Settings) (keys : Loaded) (octets : List ℕ) (status : Status) (text : List ℕ) (left key : Option (List ℕ))
       → now new ≡ last
       → ((f : List ℕ) → content (now old) ≡ Some f → Stands f h)
       → LeavesOnly (λ r. moment (now r)) (λ r t. left_since (now r) t) old mid (images (now old))
       → Images (images (now new)) g e → ∥ Legal g × IfSome e (Allowed g) ∥₁
       → s ≡ settings_of h → IsLoad key s (Ok keys)
       → length octets ≤ message_limit + 1 → IfSome left (λ all. octets ≡ take (message_limit + 1) all)
-      → IsAnswering (replier_of keys.file keys.settings) octets IsReading IsDraw (λ P. LeavesOnly (λ r. moment (now r)) (λ r t. left_since (now r) t) mid new P) h g e ends says
-      → Wrote before after ends says status
-      → RanKeyed left key (IsTakeReply (run_of content images moment left_since (now old) last) Unused IsReading IsDraw) before after status
-  taken_run one old mid new last Unused IsReading IsDraw h g e s keys octets ends says left key before after status back stands mounting stand lawful known loaded short read a wrote =
+      → (status ≡ ReadFault → devices.entropy_failed)
+      → IsAnswering (replier_of keys.file keys.settings) octets IsReading IsDraw (λ P. LeavesOnly (λ r. moment (now r)) (λ r t. left_since (now r) t) mid new P) h g e status text
+      → ToldBoth left key (IsTakeReply (run_of content images moment left_since (now old) last) devices IsReading IsDraw) status text
+  taken_run one old mid new last devices IsReading IsDraw h g e s keys octets status text left key back stands mounting stand lawful known loaded short read failed a =
       let i = read_message left octets short read in
       let file = loaded.file in
       let b = message_in i.0 in
       let own = own_file file s h keys known loaded.gives in
       let k = own_replier file s h keys known loaded.gives in
-      let t : IsAnswering (replier_at file h) b IsReading IsDraw (λ P. LeavesOnly (λ r. moment (now r)) (λ r t. left_since (now r) t) mid new P) h g e ends says =
-      subst (λ (x : Replier). IsAnswering x b IsReading IsDraw (λ P. LeavesOnly (λ r. moment (now r)) (λ r t. left_since (now r) t) mid new P) h g e ends says) k
-      (subst (λ (x : List ℕ). IsAnswering (replier_of keys.file keys.settings) x IsReading IsDraw (λ P. LeavesOnly (λ r. moment (now r)) (λ r t. left_since (now r) t) mid new P) h g e ends says) i.2 a) in
+      let t : IsAnswering (replier_at file h) b IsReading IsDraw (λ P. LeavesOnly (λ r. moment (now r)) (λ r t. left_since (now r) t) mid new P) h g e status text =
+      subst (λ (x : Replier). IsAnswering x b IsReading IsDraw (λ P. LeavesOnly (λ r. moment (now r)) (λ r t. left_since (now r) t) mid new P) h g e status text) k
+      (subst (λ (x : List ℕ). IsAnswering (replier_of keys.file keys.settings) x IsReading IsDraw (λ P. LeavesOnly (λ r. moment (now r)) (λ r t. left_since (now r) t) mid new P) h g e status text) i.2 a) in
       record {
         input = i.0;
         read = i.1;
         key = file;
         key_read = loaded.read;
-        replied = replied _ before after ends status says (inr (inr record {
+        is_reply = inr (inr record {
           now = t.now;
           reading = t.reading;
           draw = t.draw;
           drawn = t.drawn;
-          changed = subst (λ (d : D). IsChanged (run_of content images moment left_since (now old) d) (Takes file i.0 t.now t.draw) (IsTaken file i.0 t.now t.draw) ends says) back
-              (changed_run content images moment left_since honest one (now old) (now mid) (now new) (Takes file i.0 t.now t.draw) (IsTaken file i.0 t.now t.draw) h g e ends says stands
-              (lent now content images moment left_since honest old mid (images (now old)) mounting)
-              (lent now content images moment left_since honest mid new (RecoversWith h (IsTaken file i.0 t.now t.draw h)) t.moments)
-              stand lawful record { own = own; ends = t.ends; doubt = t.doubt });
-        })) wrote;
+          failed = failed;
+          letter = t.letter;
+          changed = acted now content images moment left_since honest one old mid new last (Takes file i.0 t.now t.draw) (IsTaken file i.0 t.now t.draw) h g e status text back stands mounting t.moments stand lawful t.makes
+              record { own = own; ends = t.ends; doubt = t.doubt };
+        });
       }
 
   -- where the disk isn't mounted, it is given back
-  pub untaken_run : OneAnswer → (old new : R) (last : D) (Unused : Type 0) (IsReading : ℕ → Type 0) (IsDraw : Option (List ℕ) → Type 0) (fault : MountFault) (left key before after : Option (List ℕ)) (status : Status)
+  pub unused_run : OneAnswer → (old new : R) (last : D) (devices : Devices) (IsReading : ℕ → Type 0) (IsDraw : Option (List ℕ) → Type 0) (fault : MountFault) (left key : Option (List ℕ)) (status : Status) (text : List ℕ)
       → now new ≡ last
       → ((f : List ℕ) → content (now old) ≡ Some f → Refuses f fault)
       → content (now new) ≡ content (now old) → Among (images (now old)) (images (now new)) → LeavesOnly (λ r. moment (now r)) (λ r t. left_since (now r) t) old new (images (now old))
-      → Unused
-      → Replied (IsFaultReply fault) before after status
-      → RanKeyed left key (IsTakeReply (run_of content images moment left_since (now old) last) Unused IsReading IsDraw) before after status
-  untaken_run one old new last Unused IsReading IsDraw fault left key before after status back refuses same crash moments unused r =
-      keyed_any left key _ _ before after status
-      (λ input file reply text is. inl (
-        record { fault = is.told; unmounted = told_unmounted one (content (now old)) fault is.told refuses is.is_told; ends = is.ends; says = is.says },
-        unchanged_by old new new last back refl same crash moments,
-        unused,
-      )) r
+      → devices.input.unread → devices.key.unread → devices.unused
+      → IsFaultReply fault status text
+      → ToldBoth left key (IsTakeReply (run_of content images moment left_since (now old) last) devices IsReading IsDraw) status text
+  unused_run one old new last devices IsReading IsDraw fault left key status text back refuses same crash moments input_kept key_kept unused r =
+      let i = some_input left in
+      let k = some_input key in
+      let u = gave_back now content images moment left_since honest one old new last fault status text back refuses same crash moments r in
+      record {
+        input = i.0;
+        read = i.1;
+        key = k.0;
+        key_read = k.1;
+        is_reply = inl record { fault = u.0; unchanged = u.1; input = input_kept; key = key_kept; unused = unused };
+      }

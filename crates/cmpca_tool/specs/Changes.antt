@@ -1,10 +1,11 @@
 -- What a run makes of the history on its disk.
-use Rattle.std.specs.Prelude.{◌≡◌, ◌⊎◌, ℕ, List, Option, IfSome, Ok}
+use Rattle.std.specs.Prelude.{◌≡◌, ◌⊎◌, ℕ, List, [], ◌∷◌, ◌++◌, Option, Some, None, IfSome, Ok}
 use Rattle.cmp_ports.specs.Disk.{Among, Every, LeavesOnly}
 use Rattle.deal_changes.specs.declared.change.Change.{Change}
 use Rattle.deal_model.specs.Views.{History}
 use Rattle.deal_model.specs.Rules.{Allowed, Legal}
-use Rattle.desk.specs.Images.{RecoversWith, IsDoubt}
+use Rattle.desk.specs.Calls.{IsSame}
+use Rattle.desk.specs.Images.{RecoversWith, IsDoubt, MayCome}
 use Rattle.cmpca_tool.specs.Mounts.{IsAnswer}
 use Rattle.cmpca_tool.specs.declared.status.Status.{Status}
 
@@ -36,16 +37,22 @@ pub record IsUnchanged (disk : DiskRun) : Type 0 where
 abbrev pub Deed : Type 1
 Deed = (h : History) (status : Status) (text : List ℕ) (g : History) (e : Option Change) → Type 0
 
+-- One step of a history: none, or one change of one's own that may come next, which stands behind it then or is in doubt.
+abbrev pub IsStep : (Change → Type 0) → History → History → Option Change → Type 0
+IsStep Own h g e = IsSame h None g e ⊎ ((c : Change) × MayCome Own h c × (IsSame (h ++ c ∷ []) None g e ⊎ IsSame h (Some c) g e))
+
 -- The command acts on the one history that stands in the disk's content where it is told, and leaves the disk with the history
--- after it: each image recovers to that, or to that with the change in doubt. A stop at any moment leaves an image from before
--- the run, or one that recovers to the history before, or to that with the command's own change.
+-- after it, which is one step further by the command's own change: each image recovers to that, or to that with the change in doubt. A stop at any moment leaves
+-- an image from before the run, or one that recovers to the history before, or to that with the command's own change, which may come
+-- next.
 pub record IsChanged (disk : DiskRun) (Acts : Deed) (IsOwn : History → Change → Type 0) (status : Status) (text : List ℕ) : Type 0 where
   pub before : History
   pub after : History
   pub doubt : Option Change
   pub mounted : IfSome disk.content_before (λ f. IsAnswer f (Ok before))
+  pub makes : IsStep (IsOwn before) before after doubt
   pub acts : Acts before status text after doubt
   pub content : IfSome disk.content_after (RecoversWith after (IsDoubt doubt))
   pub images : Every disk.images_after (RecoversWith after (IsDoubt doubt))
   pub lawful : ∥ Legal after × IfSome doubt (Allowed after) ∥₁
-  pub moments : disk.stops_leave (λ image. disk.images_before image ⊎ RecoversWith before (IsOwn before) image)
+  pub moments : disk.stops_leave (λ image. disk.images_before image ⊎ RecoversWith before (MayCome (IsOwn before) before) image)

@@ -93,11 +93,11 @@ abbrev pub ListsRead : Result (List Credential) RegFault → ℕ → History →
 ListsRead (Ok list) time h status text g e = Lists list time h status text g e
 ListsRead (Err fault) time h status text g e = (status ≡ file_status fault) × (text ≡ file_line fault) × IsSame h None g e
 
--- the input fails, or memory runs out, before anything is done
-abbrev pub IsCutShort : Status → List ℕ → Type 0
-IsCutShort ReadFault text = text ≡ line (codes "read fault")
-IsCutShort NoMemory text = text ≡ line (codes "no memory")
-IsCutShort _ text = ⊥
+-- what is read fails, which has this cause, or memory runs out, before anything is done
+abbrev pub IsCutShort : Type 0 → Status → List ℕ → Type 0
+IsCutShort Failed ReadFault text = Failed × (text ≡ line (codes "read fault"))
+IsCutShort Failed NoMemory text = text ≡ line (codes "no memory")
+IsCutShort Failed _ text = ⊥
 
 -- what the file tells that the source had left
 pub record IsFile (left : Option (List ℕ)) (told : Result (List Credential) RegFault) : Type 0 where
@@ -112,12 +112,12 @@ IsUnlisted left unread.ReadFault = Unit {0}
 
 -- the reply then; want of memory comes besides
 abbrev pub IsUnreadReply : Unread → Status → List ℕ → Type 0
-IsUnreadReply (Bad fault) status text = ((status ≡ file_status fault) × (text ≡ file_line fault)) ⊎ IsCutShort status text
-IsUnreadReply unread.ReadFault status text = IsCutShort status text
+IsUnreadReply (Bad fault) status text = ((status ≡ file_status fault) × (text ≡ file_line fault)) ⊎ ((status ≡ NoMemory) × (text ≡ line (codes "no memory")))
+IsUnreadReply unread.ReadFault status text = (status ≡ ReadFault) × (text ≡ line (codes "read fault"))
 
--- The credentials of the file are listed at the clock's reading.
-abbrev pub Enlists : List ℕ → ℕ → History → Status → List ℕ → History → Option Change → Type 0
-Enlists file now h status text g e = ListsRead (credentials_in file) (event_time h now) h status text g e ⊎ (IsCutShort status text × IsSame h None g e)
+-- The credentials of the file are listed at the clock's reading; or the input failed, or memory ran out.
+abbrev pub Enlists : Type 0 → List ℕ → ℕ → History → Status → List ℕ → History → Option Change → Type 0
+Enlists Failed file now h status text g e = ListsRead (credentials_in file) (event_time h now) h status text g e ⊎ (IsCutShort Failed status text × IsSame h None g e)
 
 -- the one change that it may add
 pub record IsFileListed (file : List ℕ) (now : ℕ) (h : History) (c : Change) : Type 0 where

@@ -8,7 +8,7 @@ use Rattle.journal_core.specs.Log.{is_founded}
 use Rattle.deal_changes.specs.declared.change.Change.{Change}
 use Rattle.deal_changes.specs.declared.change.Settings.{Settings}
 use Rattle.deal_changes.specs.Spelling.{spelling}
-use Rattle.deal_model.specs.Rules.{Legal}
+use Rattle.deal_model.specs.Rules.{Allowed, Legal}
 use Rattle.registry.specs.declared.fault.RegFault.{RegFault}
 use Rattle.registry.specs.declared.fault.RegFault.TheVariants as files
 use Rattle.registry.specs.Settings.{settings_in}
@@ -21,13 +21,14 @@ use Rattle.reply_maker.specs.declared.key_file.KeyFault.TheVariants as keys
 use Rattle.reply_maker.specs.KeyFile.{IsKeyFile}
 use Rattle.reply_maker.specs.Keys.{issue_secret, reply_secret, identity_of}
 use Rattle.cmpca_tool.specs.Lines.{line}
+use Rattle.cmpca_tool.specs.Sources.{SourceRun}
 use Rattle.cmpca_tool.specs.Changes.{DiskRun, IsUnchanged}
 use Rattle.cmpca_tool.specs.Deeds.{file_status, file_line, IsCutShort}
 use Rattle.cmpca_tool.specs.declared.file.Unread.{Unread}
 use Rattle.cmpca_tool.specs.declared.file.Unread.TheVariants.{Bad}
 use Rattle.cmpca_tool.specs.declared.file.Unread.TheVariants as unread
 use Rattle.cmpca_tool.specs.declared.status.Status.{Status}
-use Rattle.cmpca_tool.specs.declared.status.Status.TheVariants.{Done, Refused, DiskFault, NoMemory, BadKeyFile}
+use Rattle.cmpca_tool.specs.declared.status.Status.TheVariants.{Done, Refused, ReadFault, DiskFault, NoMemory, BadKeyFile}
 
 -- the settings with the public keys of the key file
 abbrev pub with_keys : List ℕ → Settings → Settings
@@ -65,9 +66,10 @@ TellsFailure NoMemory text = text ≡ line (codes "no memory")
 TellsFailure _ text = ⊥
 
 -- The founding is cut off. A disk that was founded stays as it was; otherwise a stop leaves an image from before, a disk that isn't
--- founded, or one with the one change.
+-- founded, or one with the one change, which may come first.
 pub record IsCutOff (disk : DiskRun) (c : Change) (status : Status) (text : List ℕ) : Type 0 where
   pub spared : IfSome disk.content_before (λ f. is_founded f ≡ true → IsUnchanged disk)
+  pub first : Allowed [] c
   pub moments : disk.stops_leave (IsBegun disk.images_before (spelling c))
   pub says : TellsFailure status text
 
@@ -82,15 +84,19 @@ pub record IsBadKeyFile (disk : DiskRun) (key : List ℕ) (status : Status) (tex
   pub ends : status ≡ BadKeyFile
   pub says : text ≡ line (codes "bad key file")
 
--- by what the input says: settings, or its first fault
-abbrev pub InitsRead : Result Settings RegFault → DiskRun → ℕ → List ℕ → Status → List ℕ → Type 0
-InitsRead (Err fault) disk now key status text = (status ≡ file_status fault) × (text ≡ file_line fault) × IsUnchanged disk
-InitsRead (Ok s) disk now key status text = IsBadKeyFile disk key status text ⊎ (IsKeyFile key × IsFoundReply disk (identity_of key s) (first_change key s now) status text)
+-- by what the input says: settings, or its first fault, and then the key file isn't read. Where it says settings, a fault of the key
+-- file and want of memory come besides, before the disk is used.
+abbrev pub InitsRead : Result Settings RegFault → DiskRun → SourceRun → ℕ → List ℕ → Status → List ℕ → Type 0
+InitsRead (Err fault) disk keys now key status text = (status ≡ file_status fault) × (text ≡ file_line fault) × IsUnchanged disk × keys.unread
+InitsRead (Ok s) disk keys now key status text =
+    IsBadKeyFile disk key status text
+    ⊎ ((IsKeyFile key × IsFoundReply disk (identity_of key s) (first_change key s now) status text) ⊎ (IsCutShort keys.failed status text × IsUnchanged disk))
 
--- Init replies by the input, then by the key file, then by the disk. A fault of the input or of the key file and want of memory come
--- besides, before the disk is used.
-abbrev pub IsInitReply : DiskRun → ℕ → List ℕ → List ℕ → Status → List ℕ → Type 0
-IsInitReply disk now input key status text = InitsRead (settings_in input) disk now key status text ⊎ (IsCutShort status text × IsUnchanged disk)
+-- Init replies by the input, then by the key file, then by the disk. A fault of the input and want of memory come besides, before the
+-- key file is read.
+abbrev pub IsInitReply : DiskRun → SourceRun → SourceRun → ℕ → List ℕ → List ℕ → Status → List ℕ → Type 0
+IsInitReply disk inputs keys now input key status text =
+    InitsRead (settings_in input) disk keys now key status text ⊎ (IsCutShort inputs.failed status text × IsUnchanged disk × keys.unread)
 
 -- ---- what is read
 
@@ -107,10 +113,10 @@ IsUnset left unread.ReadFault = Unit {0}
 
 -- the reply where no keys are loaded; where nothing is compared, a key file is no other authority's
 abbrev pub IsUnloadedReply : KeyFault → Status → List ℕ → Type 0
-IsUnloadedReply keys.ReadFault status text = IsCutShort status text
+IsUnloadedReply keys.ReadFault status text = (status ≡ ReadFault) × (text ≡ line (codes "read fault"))
 IsUnloadedReply keys.BadKeyFile status text = (status ≡ BadKeyFile) × (text ≡ line (codes "bad key file"))
 IsUnloadedReply (keys.KeyMismatch told known) status text = ⊥
-IsUnloadedReply keys.NoMemory status text = IsCutShort status text
+IsUnloadedReply keys.NoMemory status text = (status ≡ NoMemory) × (text ≡ line (codes "no memory"))
 
 -- the reply where the disk isn't founded by the run
 abbrev pub IsUnfoundedReply : FoundFault → Status → List ℕ → Type 0

@@ -3,6 +3,8 @@ pub mod Words
 pub mod Verdict
 pub mod Causes
 pub mod Lines
+pub mod Texts
+pub mod Sources
 pub mod Mounts
 pub mod Changes
 pub mod Deeds

@@ -1,12 +1,15 @@
 -- What take does: it answers the message of the input over the history that the disk holds, with the keys of the key file.
 use Rattle.std.specs.Prelude.{ℕ, ◌≡◌, ◌+◌, ◌⊎◌, List, [], ◌∷◌, ◌++◌, take, Option, Some, None, IfSome, Ok, Err, codes}
 use Rattle.hex.specs.Hex.{encode_lower}
+use Rattle.cmp_ports.specs.Disk.{Every}
 use Rattle.cmp_values.specs.declared.fail_info.FailInfo.TheVariants.{SystemFailure}
 use Rattle.deal_changes.specs.declared.change.Change.{Change}
 use Rattle.deal_model.specs.Views.{History, settings_of}
 use Rattle.deal_table.specs.History.{event_time}
 use Rattle.deal_table.specs.Message.{echo_of}
 use Rattle.deal_table.specs.Table.{Decision, Makes, Repeats, Refuses, Asks}
+use Rattle.desk.specs.Images.{Recovers}
+use Rattle.letter_laws.specs.Laws.{HasLetter}
 use Rattle.pki_message.specs.Frame.{message_limit}
 use Rattle.reply_maker.specs.KeyFile.{IsKeyFile}
 use Rattle.reply_maker.specs.Keys.{Agrees, Gives}
@@ -18,6 +21,7 @@ use Rattle.front.specs.Answers.{ForLetter, IsDecision, IsOwn, after}
 use Rattle.front.specs.Answers as front
 use Rattle.cmpca_tool.specs.Lines.{line}
 use Rattle.cmpca_tool.specs.Mounts.{IsAnswer, TellsFault}
+use Rattle.cmpca_tool.specs.Sources.{Devices}
 use Rattle.cmpca_tool.specs.Changes.{DiskRun, IsUnchanged, IsChanged}
 use Rattle.cmpca_tool.specs.Deeds.{IsCutShort}
 use Rattle.cmpca_tool.specs.declared.status.Identity.{Identity}
@@ -59,10 +63,11 @@ key_lines keys.BadKeyFile = line (codes "bad key file")
 key_lines (keys.KeyMismatch file journal) = mismatch_lines file journal
 key_lines keys.NoMemory = line (codes "no memory")
 
--- The key file gives no keys under the settings of the history, and it is told why.
-pub record TellsKeyFault (file : List ℕ) (h : History) (status : Status) (text : List ℕ) : Type 0 where
+-- The key file gives no keys under the settings of the history, and it is told why: a fault of reading only where one has this cause.
+pub record TellsKeyFault (Failed : Type 0) (file : List ℕ) (h : History) (status : Status) (text : List ℕ) : Type 0 where
   pub fault : KeyFault
   pub given : Gives file (settings_of h) (Err fault)
+  pub failed : fault ≡ keys.ReadFault → Failed
   pub ends : status ≡ key_status fault
   pub says : text ≡ key_lines fault
 
@@ -132,28 +137,41 @@ pub record Takes (file input : List ℕ) (now : ℕ) (draw : Option (List ℕ)) 
 abbrev pub IsTaken : List ℕ → List ℕ → ℕ → Option (List ℕ) → History → Change → Type 0
 IsTaken file input now draw h c = OwnChange (replier_at file h) (message_in input) now draw h c
 
--- why no message is answered: the key file gives no keys; or it does, and the input fails or memory runs out
-abbrev pub IsUnread : List ℕ → History → Status → List ℕ → Type 0
-IsUnread file h status text = TellsKeyFault file h status text ⊎ (IsOwnFile file h × IsCutShort status text)
+-- Why no message is answered: the key file gives no keys, and the input isn't read; or it does, and the input fails or memory runs out.
+abbrev pub IsUnread : Devices → List ℕ → History → Status → List ℕ → Type 0
+IsUnread devices file h status text =
+    (TellsKeyFault devices.key.failed file h status text × devices.input.unread) ⊎ (IsOwnFile file h × IsCutShort devices.input.failed status text)
 
--- No message is answered, and nothing is changed.
-pub record IsUntaken (disk : DiskRun) (file : List ℕ) (status : Status) (text : List ℕ) : Type 0 where
+-- No message is answered, and nothing is changed: the disk has the history that was mounted, also after a stop.
+pub record IsUntaken (disk : DiskRun) (devices : Devices) (file : List ℕ) (status : Status) (text : List ℕ) : Type 0 where
   pub history : History
   pub mounted : IfSome disk.content_before (λ f. IsAnswer f (Ok history))
   pub unchanged : IsUnchanged disk
-  pub cause : IsUnread file history status text
+  pub images : Every disk.images_after (λ f. Recovers f history)
+  pub cause : IsUnread devices file history status text
 
--- A message is answered, at the one reading and by the one draw of the run.
-pub record IsTakenRun (disk : DiskRun) (IsReading : ℕ → Type 0) (IsDraw : Option (List ℕ) → Type 0) (file input : List ℕ) (status : Status) (text : List ℕ) : Type 0 where
+-- A message is answered, at the one reading and by the one draw of the run; where no words were drawn, the entropy failed. Its octets
+-- have a letter, so that what is said of each letter that they are is said of one.
+pub record IsTakenRun (disk : DiskRun) (devices : Devices) (IsReading : ℕ → Type 0) (IsDraw : Option (List ℕ) → Type 0) (file input : List ℕ) (status : Status) (text : List ℕ) : Type 0 where
   pub now : ℕ
   pub reading : IsReading now
   pub draw : Option (List ℕ)
   pub drawn : IsDraw draw
+  pub failed : status ≡ ReadFault → devices.entropy_failed
+  pub letter : HasLetter (message_in input)
   pub changed : IsChanged disk (Takes file input now draw) (IsTaken file input now draw) status text
+
+-- The disk isn't mounted, and nothing else is used: the input and the key file are as they were, and so are the clock and the entropy.
+pub record IsUnused (disk : DiskRun) (devices : Devices) (status : Status) (text : List ℕ) : Type 0 where
+  pub fault : TellsFault disk.content_before status text
+  pub unchanged : IsUnchanged disk
+  pub input : devices.input.unread
+  pub key : devices.key.unread
+  pub unused : devices.unused
 
 -- The reply to take: the disk is not mounted; or it is, and no message is answered; or one is. Unless one is, neither the clock is
 -- read nor words are drawn.
-abbrev pub IsTakeReply : DiskRun → Type 0 → (ℕ → Type 0) → (Option (List ℕ) → Type 0) → List ℕ → List ℕ → Status → List ℕ → Type 0
-IsTakeReply disk Unused IsReading IsDraw input file status text =
-    (TellsFault disk.content_before status text × IsUnchanged disk × Unused)
-    ⊎ ((IsUntaken disk file status text × Unused) ⊎ IsTakenRun disk IsReading IsDraw file input status text)
+abbrev pub IsTakeReply : DiskRun → Devices → (ℕ → Type 0) → (Option (List ℕ) → Type 0) → List ℕ → List ℕ → Status → List ℕ → Type 0
+IsTakeReply disk devices IsReading IsDraw input file status text =
+    IsUnused disk devices status text
+    ⊎ ((IsUntaken disk devices file status text × devices.unused) ⊎ IsTakenRun disk devices IsReading IsDraw file input status text)

@@ -6,7 +6,8 @@ use Rattle.cmp_ports.specs.declared.note.Outcome.{Outcome}
 use Rattle.cmp_ports.specs.declared.note.Outcome.TheVariants as outcome
 use Rattle.deal_changes.specs.declared.change.Change.{Change}
 use Rattle.deal_model.specs.Views.{History}
-use Rattle.desk.specs.Images.{RecoversWith}
+use Rattle.desk.specs.Images.{RecoversWith, MayCome}
+use Rattle.letter_laws.specs.Laws.{HasLetter}
 use Rattle.deal_changes.specs.declared.change.Settings.{Settings}
 use Rattle.reply_maker.specs.Keys.{Loaded, IsLoad}
 use Rattle.reply_maker.specs.Replies.{Replier}
@@ -14,8 +15,8 @@ use Rattle.reply_maker.specs.declared.key_file.KeyFault.{KeyFault}
 use Rattle.reply_maker.specs.declared.key_file.KeyFault.TheVariants as keys
 use Rattle.front.specs.declared.device.Device.{Device}
 use Rattle.front.specs.declared.device.Device.TheVariants.{Entropy, Disk}
+use Rattle.cmpca_tool.specs.Changes.{IsStep}
 use Rattle.cmpca_tool.specs.Lines.{line}
-use Rattle.cmpca_tool.specs.Deeds.{IsCutShort}
 use Rattle.cmpca_tool.specs.Takes.{EndsBy, OwnChange, key_status, key_lines}
 use Rattle.cmpca_tool.specs.declared.take.Untaken.{Untaken}
 use Rattle.cmpca_tool.specs.declared.take.Untaken.TheVariants as untaken
@@ -43,8 +44,8 @@ is_keyless _ = false
 -- the reply then
 abbrev pub IsUntakenReply : Untaken → Status → List ℕ → Type 0
 IsUntakenReply (untaken.Keyless fault) status text = IsKeyReply fault status text
-IsUntakenReply untaken.ReadFault status text = IsCutShort status text
-IsUntakenReply untaken.NoMemory status text = IsCutShort status text
+IsUntakenReply untaken.ReadFault status text = (status ≡ ReadFault) × (text ≡ line (codes "read fault"))
+IsUntakenReply untaken.NoMemory status text = (status ≡ NoMemory) × (text ≡ line (codes "no memory"))
 
 -- how a run ends where a device failed, and by how the message ended
 abbrev pub device_status : Option Device → Status
@@ -75,6 +76,8 @@ pub record IsAnswering (k : Replier) (b : List ℕ) (IsReading : ℕ → Type 0)
   pub reading : IsReading now
   pub draw : Option (List ℕ)
   pub drawn : IsDraw draw
+  pub letter : HasLetter b
+  pub makes : IsStep (OwnChange k b now draw h) h g e
   pub ends : EndsBy k b now draw h status text g
   pub doubt : IfSome e (OwnChange k b now draw h)
-  pub moments : stops_leave (RecoversWith h (OwnChange k b now draw h))
+  pub moments : stops_leave (RecoversWith h (MayCome (OwnChange k b now draw h) h))

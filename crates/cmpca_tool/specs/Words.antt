@@ -4,6 +4,7 @@ use Rattle.std.specs.Str.{bytes_eq}
 use Rattle.std.specs.Result.{result_ok}
 use Rattle.hex.specs.Hex.{decode_of}
 use Rattle.deal_changes.specs.declared.change.Kind.TheVariants.{Mac, Lms}
+use Rattle.cmpca_tool.specs.Sources.{message_most, file_most, key_most}
 use Rattle.cmpca_tool.specs.declared.words.Command.{Command}
 use Rattle.cmpca_tool.specs.declared.words.Command.TheVariants.{Verify, Init, Take, Show, Enlist, Dismiss, Release, Deny}
 
@@ -78,3 +79,16 @@ changes_history (Some (Dismiss kind id)) = true
 changes_history (Some (Release tid)) = true
 changes_history (Some (Deny tid)) = true
 changes_history _ = false
+
+-- how many octets of the input, and of the key file, a command reads at most
+abbrev pub input_most : Option Command → ℕ
+input_most (Some (Verify secret)) = message_most
+input_most (Some Init) = file_most
+input_most (Some Take) = message_most
+input_most (Some Enlist) = file_most
+input_most _ = 0
+
+abbrev pub key_file_most : Option Command → ℕ
+key_file_most (Some Init) = key_most
+key_file_most (Some Take) = key_most
+key_file_most _ = 0

@@ -1,15 +1,18 @@
 //! The command that dismisses a credential.
-ghost use Rattle.std.specs.Prelude.{◌≡◌, ◌≢◌, ◌≤◌, None, codes};
+ghost use Rattle.std.specs.Prelude.{◌≡◌, ◌≢◌, ◌≤◌, None};
 ghost use Rattle.cmp_ports.specs.Disk.{LeavesOnly};
 ghost use Rattle.cmp_ports.specs.Faults.{Rose};
-ghost use Rattle.desk.specs.Images.{RecoversWith};
-ghost use Rattle.cmpca_tool.specs.Changes.{run_of};
+ghost use Rattle.desk.specs.History.{history_of};
+ghost use Rattle.desk.specs.Images.{RecoversWith, MayCome};
+ghost use Rattle.cmpca_tool.specs.Changes.{run_of, IsStep};
 ghost use Rattle.cmpca_tool.specs.Deeds.{Dismisses, IsDismissedAt, listing_status, listing_line};
-ghost use Rattle.cmpca_tool.specs.Reply.{Replied, IsChangeReply};
+ghost use Rattle.cmpca_tool.specs.Reply.{IsChangeReply};
+ghost use Rattle.cmpca_tool.specs.Texts.{text_of};
 
-use crate::ending::{disk_of, finish, finish_unmounted};
+use crate::ending::disk_of;
+use crate::reply::{Reply, Text, unmounted};
 use crate::status::Status;
-use cmp_ports::{Disk, Short, Sink};
+use cmp_ports::{Disk, Short};
 use deal_model::Kind;
 use desk::{Desk, Listing};
 use desk_laws::at_most_one_answer;
@@ -29,60 +32,45 @@ pub fn listing_status(listing: Listing) -> Status
     }
 }
 
-/// What is written then, with this line where it was done.
-pub fn listing_line<'a>(listing: Listing, done: &'a [u8]) -> &'a [u8]
-    ensures { result.now ≡ listing_line done.now listing }
+/// What is written then, with this text where it was done.
+pub fn listing_text(listing: Listing, done: Text) -> Text
+    ensures { text_of result ≡ listing_line (text_of done) listing }
 {
     match listing {
         Listing::Done { .. } => done,
-        Listing::InUse { .. } => b"refused reference in use\n",
-        Listing::Unknown => b"refused unknown credential\n",
-        Listing::Already => b"refused already dismissed\n",
-        Listing::Full => b"refused journal full\n",
-        Listing::DiskFault => b"disk fault\n",
-        Listing::NoMemory => b"no memory\n",
+        Listing::InUse { .. } => Text::Line(b"refused reference in use\n"),
+        Listing::Unknown => Text::Line(b"refused unknown credential\n"),
+        Listing::Already => Text::Line(b"refused already dismissed\n"),
+        Listing::Full => Text::Line(b"refused journal full\n"),
+        Listing::DiskFault => Text::Line(b"disk fault\n"),
+        Listing::NoMemory => Text::Line(b"no memory\n"),
     }
 }
 
 /// Dismisses a credential at a desk where nothing is in doubt.
-fn dismiss_on<F: Disk, W: Sink>(
-    desk: &mut Desk<F>,
-    kind: Kind,
-    id: &Short,
-    now: u64,
-    out: &mut W,
-) -> Status
+fn dismiss_on<F: Disk>(desk: &mut Desk<F>, kind: Kind, id: &Short, now: u64) -> Reply
     requires clock { now ≤ 250000000000 }
     requires clear { desk.old.doubt ≡ None }
-    ensures replied { Replied (λ status text. Dismisses kind id.now now desk.old.history.items status text desk.new.history.items desk.new.doubt) (W.written out.old) (W.written out.new) result }
-    ensures moments { LeavesOnly F.moment F.left_since desk.old.disk desk.new.disk (RecoversWith desk.old.history.items (IsDismissedAt kind id.now now desk.old.history.items)) }
-    ensures write_fault { result ≡ Status.WriteFault → Rose (W.faults out.old) (W.faults out.new) }
-    ensures no_read { result ≢ Status.ReadFault }
-    ensures disk_fault { result ≡ Status.DiskFault → Rose (F.faults desk.old.disk) (F.faults desk.new.disk) }
+    ensures reply { Dismisses kind id.now now (history_of desk.old) result.status (text_of result.text) (history_of desk.new) desk.new.doubt }
+    ensures makes { IsStep (IsDismissedAt kind id.now now (history_of desk.old)) (history_of desk.old) (history_of desk.new) desk.new.doubt }
+    ensures moments { LeavesOnly F.moment F.left_since desk.old.disk desk.new.disk (RecoversWith (history_of desk.old) (MayCome (IsDismissedAt kind id.now now (history_of desk.old)) (history_of desk.old))) }
+    ensures streams { (result.status ≢ Status.WriteFault) × (result.status ≢ Status.ReadFault) }
+    ensures disk_fault { result.status ≡ Status.DiskFault → Rose (F.faults desk.old.disk) (F.faults desk.new.disk) }
     ensures loan { F.loan desk.new.disk ≡ F.loan desk.old.disk }
 {
     let listing = desk.dismiss(kind, id, now);
-    finish(
-        out,
-        listing_line(listing, b"dismissed\n"),
-        listing_status(listing),
-    )
+    Reply {
+        status: listing_status(listing),
+        text: listing_text(listing, Text::Line(b"dismissed\n")),
+    }
 }
 
 /// Dismisses a credential of the history that the disk holds, at this time in seconds since 1970.
-pub fn run_dismiss<D: Disk, W: Sink>(
-    alloc: Global,
-    kind: Kind,
-    id: &Short,
-    disk: &mut D,
-    now: u64,
-    out: &mut W,
-) -> Status
+pub fn run_dismiss<D: Disk>(alloc: Global, kind: Kind, id: &Short, disk: &mut D, now: u64) -> Reply
     requires { now ≤ 250000000000 }
-    ensures replied { Replied (IsChangeReply (run_of D.content D.images D.moment D.left_since disk.old disk.new) (Dismisses kind id.now now) (IsDismissedAt kind id.now now)) (W.written out.old) (W.written out.new) result }
-    ensures write_fault { result ≡ Status.WriteFault → Rose (W.faults out.old) (W.faults out.new) }
-    ensures no_read { result ≢ Status.ReadFault }
-    ensures disk_fault { result ≡ Status.DiskFault → Rose (D.faults disk.old) (D.faults disk.new) }
+    ensures reply { IsChangeReply (run_of D.content D.images D.moment D.left_since disk.old disk.new) (Dismisses kind id.now now) (IsDismissedAt kind id.now now) result.status (text_of result.text) }
+    ensures streams { (result.status ≢ Status.WriteFault) × (result.status ≢ Status.ReadFault) }
+    ensures disk_fault { result.status ≡ Status.DiskFault → Rose (D.faults disk.old) (D.faults disk.new) }
 {
     at_most_one_answer();
     let mut desk = match Desk::mount(alloc, &mut *disk) {
@@ -90,11 +78,11 @@ pub fn run_dismiss<D: Disk, W: Sink>(
         Err(failed) => {
             let fault = failed.1;
             let _disk = disk_of(failed);
-            return finish_unmounted(alloc, fault, out);
+            return unmounted(alloc, fault);
         }
     };
-    let status = dismiss_on(&mut desk, kind, id, now, out);
+    let reply = dismiss_on(&mut desk, kind, id, now);
     desk.stands_for_its_disk();
     let _disk = desk.into_disk();
-    status
+    reply
 }

@@ -1,37 +1,33 @@
-//! The end of a run: its text is written, and it has its status.
+//! The end of a run: its reply is written, and it has its status.
 ghost use Rattle.std.specs.Prelude.{◌≡◌, ◌≢◌, ◌≤◌, codes};
 ghost use Rattle.cmp_ports.specs.Faults.{Rose};
 ghost use Rattle.cmpca_tool.specs.Lines.{line};
-ghost use Rattle.cmpca_tool.specs.Mounts.{IsFaultReply};
-ghost use Rattle.cmpca_tool.specs.Reply.{Wrote, Replied};
+ghost use Rattle.cmpca_tool.specs.Reply.{Wrote};
+ghost use Rattle.cmpca_tool.specs.Texts.{text_of};
 
-use crate::reply::unmounted;
+use crate::reply::Reply;
 use crate::status::Status;
 use cmp_ports::{Disk, Sink, write_all};
 use desk::MountFault;
-use std::alloc::Global;
 
-/// What is written where memory runs out.
-const NO_MEMORY: &[u8] = b"no memory\n";
-
-/// Writes the text that a run ends with.
-pub fn finish<W: Sink>(out: &mut W, text: &[u8], status: Status) -> Status
-    requires { status ≢ Status.WriteFault }
-    ensures wrote { Wrote (W.written out.old) (W.written out.new) status text.now result }
+/// Writes the reply of a run, which ends with it.
+pub fn finish<W: Sink>(out: &mut W, reply: &Reply) -> Status
+    requires { reply.now.status ≢ Status.WriteFault }
+    ensures wrote { Wrote (W.written out.old) (W.written out.new) reply.now.status (text_of reply.now.text) result }
     ensures fault { result ≡ Status.WriteFault → Rose (W.faults out.old) (W.faults out.new) }
 {
-    match write_all(out, text) {
-        Ok(()) => status,
+    match write_all(out, reply.text.as_slice()) {
+        Ok(()) => reply.status,
         Err(_) => Status::WriteFault,
     }
 }
 
-/// Ends a run that memory was refused to.
+/// Ends a run that memory was refused to before it began.
 pub fn no_memory<W: Sink>(out: &mut W) -> Status
     ensures wrote { Wrote (W.written out.old) (W.written out.new) Status.NoMemory (line (codes "no memory")) result }
     ensures fault { result ≡ Status.WriteFault → Rose (W.faults out.old) (W.faults out.new) }
 {
-    finish(out, NO_MEMORY, Status::NoMemory)
+    finish(out, &Reply::no_memory())
 }
 
 /// The disk that was not mounted.
@@ -39,17 +35,4 @@ pub fn disk_of<F: Disk>(failed: (F, MountFault)) -> F
     ensures { result ≡ failed.0 }
 {
     failed.0
-}
-
-/// Ends a run whose disk is not mounted.
-pub fn finish_unmounted<W: Sink>(alloc: Global, fault: MountFault, out: &mut W) -> Status
-    ensures replied { Replied (IsFaultReply fault) (W.written out.old) (W.written out.new) result }
-    ensures write_fault { result ≡ Status.WriteFault → Rose (W.faults out.old) (W.faults out.new) }
-    ensures no_read { result ≢ Status.ReadFault }
-    ensures disk_fault { result ≡ Status.DiskFault → fault ≡ MountFault.DiskFault }
-{
-    match unmounted(alloc, fault) {
-        Ok(reply) => finish(out, reply.text.as_slice(), reply.status),
-        Err(_) => no_memory(out),
-    }
 }

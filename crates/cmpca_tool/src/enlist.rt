@@ -2,19 +2,24 @@
 ghost use Rattle.std.specs.Prelude.{◌≡◌, ◌≢◌, ◌≤◌, None, Ok, IfOk, IfErr};
 ghost use Rattle.cmp_ports.specs.Disk.{LeavesOnly};
 ghost use Rattle.cmp_ports.specs.Faults.{Rose};
+ghost use Rattle.cmp_ports.specs.Whole.{TakesUpTo};
 ghost use Rattle.registry.specs.Credentials.{AreListable};
 ghost use Rattle.desk.specs.Due.{event_time};
-ghost use Rattle.desk.specs.Images.{RecoversWith};
+ghost use Rattle.desk.specs.History.{history_of};
+ghost use Rattle.desk.specs.Images.{RecoversWith, MayCome};
 ghost use Rattle.desk.specs.Listings.{IsEnlisting};
-ghost use Rattle.cmpca_tool.specs.Changes.{run_of};
-ghost use Rattle.cmpca_tool.specs.Deeds.{IsFile, IsUnlisted, Lists, Enlists, IsFileListed, enlisted_line};
-ghost use Rattle.cmpca_tool.specs.Reply.{Replied, Ran, IsChangeReply};
+ghost use Rattle.cmpca_tool.specs.Changes.{run_of, IsStep};
+ghost use Rattle.cmpca_tool.specs.Deeds.{IsFile, IsUnlisted, Lists, enlisted_line};
+ghost use Rattle.cmpca_tool.specs.Reply.{IsEnlistReply};
+ghost use Rattle.cmpca_tool.specs.Sources.{source_run, Told, file_most};
+ghost use Rattle.cmpca_tool.specs.Texts.{text_of};
 
-use crate::dismiss::{listing_line, listing_status};
-use crate::ending::{disk_of, finish, finish_unmounted, no_memory};
-use crate::file::{FILE_LIMIT, Unread, finish_unread};
+use crate::dismiss::{listing_status, listing_text};
+use crate::ending::disk_of;
+use crate::file::{FILE_LIMIT, Unread, unread_reply};
+use crate::reply::{Reply, Text, unmounted};
 use crate::status::Status;
-use cmp_ports::{Disk, Octets, ReadError, Sink, Source, read_up_to};
+use cmp_ports::{Disk, Octets, ReadError, Source, read_up_to};
 use deal_model::CredentialList;
 use desk::Desk;
 use desk_laws::at_most_one_answer;
@@ -39,6 +44,7 @@ fn read_list<S: Source>(alloc: Global, input: &mut S) -> Result<CredentialList, 
     ensures read { IfOk result (λ list. IsFile (S.left input.old) (Ok list)) }
     ensures unread { IfErr result (IsUnlisted (S.left input.old)) }
     ensures listable { IfOk result AreListable }
+    ensures taken { TakesUpTo file_most (S.left input.old) (S.left input.new) }
     ensures fault { IfErr result (λ f. f ≡ Unread.ReadFault → Rose (S.faults input.old) (S.faults input.new)) }
 {
     let octets = match read_up_to(alloc, input, FILE_LIMIT) {
@@ -53,49 +59,38 @@ fn read_list<S: Source>(alloc: Global, input: &mut S) -> Result<CredentialList, 
 }
 
 /// Lists credentials at a desk where nothing is in doubt. The line that tells it is made before.
-fn enlist_on<F: Disk, W: Sink>(
-    alloc: Global,
-    desk: &mut Desk<F>,
-    list: &CredentialList,
-    now: u64,
-    out: &mut W,
-) -> Status
+fn enlist_on<F: Disk>(alloc: Global, desk: &mut Desk<F>, list: &CredentialList, now: u64) -> Reply
     requires clock { now ≤ 250000000000 }
     requires clear { desk.old.doubt ≡ None }
     requires listable { AreListable list.now }
-    ensures replied { Replied (λ status text. Lists list.now (event_time desk.old.history.items now) desk.old.history.items status text desk.new.history.items desk.new.doubt) (W.written out.old) (W.written out.new) result }
-    ensures moments { LeavesOnly F.moment F.left_since desk.old.disk desk.new.disk (RecoversWith desk.old.history.items (IsEnlisting list.now (event_time desk.old.history.items now))) }
-    ensures write_fault { result ≡ Status.WriteFault → Rose (W.faults out.old) (W.faults out.new) }
-    ensures no_read { result ≢ Status.ReadFault }
-    ensures disk_fault { result ≡ Status.DiskFault → Rose (F.faults desk.old.disk) (F.faults desk.new.disk) }
+    ensures reply { Lists list.now (event_time (history_of desk.old) now) (history_of desk.old) result.status (text_of result.text) (history_of desk.new) desk.new.doubt }
+    ensures makes { IsStep (IsEnlisting list.now (event_time (history_of desk.old) now)) (history_of desk.old) (history_of desk.new) desk.new.doubt }
+    ensures moments { LeavesOnly F.moment F.left_since desk.old.disk desk.new.disk (RecoversWith (history_of desk.old) (MayCome (IsEnlisting list.now (event_time (history_of desk.old) now)) (history_of desk.old))) }
+    ensures streams { (result.status ≢ Status.WriteFault) × (result.status ≢ Status.ReadFault) }
+    ensures disk_fault { result.status ≡ Status.DiskFault → Rose (F.faults desk.old.disk) (F.faults desk.new.disk) }
     ensures loan { F.loan desk.new.disk ≡ F.loan desk.old.disk }
 {
     desk.stands_for_its_disk();
     let done = match enlisted_line(alloc, list.len()) {
         Ok(done) => done,
-        Err(_) => return no_memory(out),
+        Err(_) => return Reply::no_memory(),
     };
     let listing = desk.enlist(list, now);
-    finish(
-        out,
-        listing_line(listing, done.as_slice()),
-        listing_status(listing),
-    )
+    Reply {
+        status: listing_status(listing),
+        text: listing_text(listing, Text::Made(done)),
+    }
 }
 
-/// Lists the credentials of the input on the history that the disk holds, at this time in seconds since 1970.
-pub fn run_enlist<D: Disk, S: Source, W: Sink>(
-    alloc: Global,
-    input: &mut S,
-    disk: &mut D,
-    now: u64,
-    out: &mut W,
-) -> Status
+/// Lists the credentials of the input on the history that the disk holds, at this time in seconds since 1970. Where the disk isn't
+/// mounted, nothing of the input is read.
+pub fn run_enlist<D: Disk, S: Source>(alloc: Global, input: &mut S, disk: &mut D, now: u64) -> Reply
     requires { now ≤ 250000000000 }
-    ensures ran { Ran (S.left input.old) (λ file. IsChangeReply (run_of D.content D.images D.moment D.left_since disk.old disk.new) (Enlists file now) (IsFileListed file now)) (W.written out.old) (W.written out.new) result }
-    ensures read_fault { result ≡ Status.ReadFault → Rose (S.faults input.old) (S.faults input.new) }
-    ensures write_fault { result ≡ Status.WriteFault → Rose (W.faults out.old) (W.faults out.new) }
-    ensures disk_fault { result ≡ Status.DiskFault → Rose (D.faults disk.old) (D.faults disk.new) }
+    ensures told { Told (S.left input.old) (IsEnlistReply (run_of D.content D.images D.moment D.left_since disk.old disk.new) (source_run S.faults input.old input.new) now) result.status (text_of result.text) }
+    ensures taken { TakesUpTo file_most (S.left input.old) (S.left input.new) }
+    ensures read_fault { result.status ≡ Status.ReadFault → Rose (S.faults input.old) (S.faults input.new) }
+    ensures no_write { result.status ≢ Status.WriteFault }
+    ensures disk_fault { result.status ≡ Status.DiskFault → Rose (D.faults disk.old) (D.faults disk.new) }
 {
     at_most_one_answer();
     let mut desk = match Desk::mount(alloc, &mut *disk) {
@@ -103,20 +98,20 @@ pub fn run_enlist<D: Disk, S: Source, W: Sink>(
         Err(failed) => {
             let fault = failed.1;
             let _disk = disk_of(failed);
-            return finish_unmounted(alloc, fault, out);
+            return unmounted(alloc, fault);
         }
     };
     match read_list(alloc, input) {
         Ok(list) => {
-            let status = enlist_on(alloc, &mut desk, &list, now, out);
+            let reply = enlist_on(alloc, &mut desk, &list, now);
             desk.stands_for_its_disk();
             let _disk = desk.into_disk();
-            status
+            reply
         }
         Err(unread) => {
             desk.stands_for_its_disk();
             let _disk = desk.into_disk();
-            finish_unread(alloc, unread, out)
+            unread_reply(alloc, unread)
         }
     }
 }

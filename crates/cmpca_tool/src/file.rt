@@ -1,12 +1,11 @@
-//! The operator's files, of settings and of credentials: how a run ends that reads none.
+//! The operator's files, of settings and of credentials: what a run replies that reads none.
 ghost use Rattle.std.specs.Prelude.{◌≡◌, ◌≢◌, IfOk};
-ghost use Rattle.cmp_ports.specs.Faults.{Rose};
 ghost use Rattle.cmpca_tool.specs.Deeds.{IsUnreadReply, file_line, file_status};
-ghost use Rattle.cmpca_tool.specs.Reply.{Replied};
+ghost use Rattle.cmpca_tool.specs.Texts.{text_of};
 
-use crate::ending::{finish, no_memory};
+use crate::reply::Reply;
 use crate::status::Status;
-use cmp_ports::{Octets, Sink};
+use cmp_ports::Octets;
 use itoa::Buffer;
 use registry::{CredCause, RegFault, SettingKey};
 use std::alloc::{AllocError, Global};
@@ -72,18 +71,17 @@ fn file_status(fault: RegFault) -> Status
     }
 }
 
-/// Ends a run whose file isn't read.
-pub fn finish_unread<W: Sink>(alloc: Global, unread: Unread, out: &mut W) -> Status
-    ensures replied { Replied (IsUnreadReply unread) (W.written out.old) (W.written out.new) result }
-    ensures write_fault { result ≡ Status.WriteFault → Rose (W.faults out.old) (W.faults out.new) }
-    ensures read_fault { result ≡ Status.ReadFault → unread ≡ Unread.ReadFault }
-    ensures no_disk { result ≢ Status.DiskFault }
+/// The reply of a run whose file isn't read.
+pub fn unread_reply(alloc: Global, unread: Unread) -> Reply
+    ensures reply { IsUnreadReply unread result.status (text_of result.text) }
+    ensures read_fault { result.status ≡ Status.ReadFault → unread ≡ Unread.ReadFault }
+    ensures devices { (result.status ≢ Status.WriteFault) × (result.status ≢ Status.DiskFault) }
 {
     match unread {
         Unread::Bad(fault) => match file_line(alloc, fault) {
-            Ok(text) => finish(out, text.as_slice(), file_status(fault)),
-            Err(_) => no_memory(out),
+            Ok(text) => Reply::made(file_status(fault), text),
+            Err(_) => Reply::no_memory(),
         },
-        Unread::ReadFault => finish(out, b"read fault\n", Status::ReadFault),
+        Unread::ReadFault => Reply::read_fault(),
     }
 }

@@ -1,19 +1,21 @@
 //! The command that founds a service.
-ghost use Rattle.std.specs.Prelude.{◌≡◌, ◌≢◌, ◌⊎◌, ◌≤◌, ℕ, List, [], length, false, Some, Ok, Err, IfOk, IfErr};
+ghost use Rattle.std.specs.Prelude.{◌≡◌, ◌≢◌, ◌⊎◌, ◌≤◌, ℕ, List, [], length, false, Some, Ok, IfOk, IfErr};
 ghost use Rattle.cmp_ports.specs.Disk.{Among, LeavesOnly};
 ghost use Rattle.cmp_ports.specs.Faults.{Rose, HasCause};
+ghost use Rattle.cmp_ports.specs.Whole.{TakesUpTo};
 ghost use Rattle.journal_core.specs.Log.{is_open, is_founded};
 ghost use Rattle.deal_model.specs.Rules.{Allowed};
-ghost use Rattle.registry.specs.Settings.{settings_in, MayFound, AreUnmade};
+ghost use Rattle.registry.specs.Settings.{MayFound, AreUnmade};
 ghost use Rattle.desk.specs.Founded.{founding};
 ghost use Rattle.cmpca_tool.specs.Changes.{run_of};
 ghost use Rattle.cmpca_tool.specs.Inits.{IsInitReply, IsFoundReply, IsUnset, IsUnloadedReply, IsUnfoundedReply, SaysSettings, founded_line, with_keys};
-ghost use Rattle.cmpca_tool.specs.Reply.{Replied, RanKeyed};
+ghost use Rattle.cmpca_tool.specs.Sources.{source_run, ToldBoth, file_most, key_most};
+ghost use Rattle.cmpca_tool.specs.Texts.{text_of};
 
-use crate::ending::{finish, no_memory};
-use crate::file::{FILE_LIMIT, Unread, finish_unread};
+use crate::file::{FILE_LIMIT, Unread, unread_reply};
+use crate::reply::Reply;
 use crate::status::Status;
-use cmp_ports::{Disk, Failed, Octets, ReadError, Sink, Source, read_up_to};
+use cmp_ports::{Disk, Failed, Octets, ReadError, Source, read_up_to};
 use deal_model::Settings;
 use desk::{Desk, FoundFault};
 use registry::{RegFault, read_settings};
@@ -50,6 +52,7 @@ fn read_file<S: Source>(alloc: Global, input: &mut S) -> Result<Settings, Unread
     ensures unread { IfErr result (IsUnset (S.left input.old)) }
     ensures founds { IfOk result MayFound }
     ensures unmade { IfOk result AreUnmade }
+    ensures taken { TakesUpTo file_most (S.left input.old) (S.left input.new) }
     ensures fault { IfErr result (λ f. f ≡ Unread.ReadFault → Rose (S.faults input.old) (S.faults input.new)) }
 {
     let octets = match read_up_to(alloc, input, FILE_LIMIT) {
@@ -76,19 +79,18 @@ fn with_keys(settings: Settings, keys: &Keys) -> Settings
     }
 }
 
-/// Ends a run that has no keys.
-fn finish_unloaded<W: Sink>(fault: KeyFault, out: &mut W) -> Status
+/// The reply of a run that has no keys.
+fn unloaded_reply(fault: KeyFault) -> Reply
     requires { (file journal : List ℕ) → fault ≢ KeyFault.KeyMismatch file journal }
-    ensures replied { Replied (IsUnloadedReply fault) (W.written out.old) (W.written out.new) result }
-    ensures write_fault { result ≡ Status.WriteFault → Rose (W.faults out.old) (W.faults out.new) }
-    ensures read_fault { result ≡ Status.ReadFault → fault ≡ KeyFault.ReadFault }
-    ensures no_disk { result ≢ Status.DiskFault }
+    ensures reply { IsUnloadedReply fault result.status (text_of result.text) }
+    ensures read_fault { result.status ≡ Status.ReadFault → fault ≡ KeyFault.ReadFault }
+    ensures devices { (result.status ≢ Status.WriteFault) × (result.status ≢ Status.DiskFault) }
 {
     match fault {
-        KeyFault::ReadFault => finish(out, b"read fault\n", Status::ReadFault),
-        KeyFault::BadKeyFile => finish(out, b"bad key file\n", Status::BadKeyFile),
+        KeyFault::ReadFault => Reply::read_fault(),
+        KeyFault::BadKeyFile => Reply::says(Status::BadKeyFile, b"bad key file\n"),
         KeyFault::KeyMismatch { .. } => unreachable!(),
-        KeyFault::NoMemory => no_memory(out),
+        KeyFault::NoMemory => Reply::no_memory(),
     }
 }
 
@@ -125,102 +127,97 @@ fn disk_of<F: Disk>(failed: (F, FoundFault)) -> F
     failed.0
 }
 
-/// Ends a run whose disk is not founded by it.
-fn finish_unfounded<W: Sink>(fault: FoundFault, out: &mut W) -> Status
-    ensures replied { Replied (IsUnfoundedReply fault) (W.written out.old) (W.written out.new) result }
-    ensures write_fault { result ≡ Status.WriteFault → Rose (W.faults out.old) (W.faults out.new) }
-    ensures no_read { result ≢ Status.ReadFault }
-    ensures disk_fault { result ≡ Status.DiskFault → fault ≡ FoundFault.DiskFault }
+/// The reply of a run whose disk is not founded by it.
+fn unfounded_reply(fault: FoundFault) -> Reply
+    ensures reply { IsUnfoundedReply fault result.status (text_of result.text) }
+    ensures streams { (result.status ≢ Status.WriteFault) × (result.status ≢ Status.ReadFault) }
+    ensures disk_fault { result.status ≡ Status.DiskFault → fault ≡ FoundFault.DiskFault }
 {
     match fault {
-        FoundFault::Already => finish(out, ALREADY, Status::Refused),
-        FoundFault::DiskFault => finish(out, DISK_FAULT, Status::DiskFault),
-        FoundFault::NoMemory => no_memory(out),
+        FoundFault::Already => Reply::says(Status::Refused, ALREADY),
+        FoundFault::DiskFault => Reply::says(Status::DiskFault, DISK_FAULT),
+        FoundFault::NoMemory => Reply::no_memory(),
     }
 }
 
 /// Founds a service on a disk that isn't founded. The line that tells it is made before.
-fn found_on<D: Disk, W: Sink>(
+fn found_on<D: Disk>(
     alloc: Global,
     disk: &mut D,
     settings: &Settings,
     identity: &[u8; 96],
     now: u64,
-    out: &mut W,
-) -> Status
+) -> Reply
     requires free { (f : List ℕ) → D.content disk.old ≡ Some f → is_founded f ≡ false }
     requires first { Allowed [] (founding settings.now now) }
-    ensures replied { Replied (IsFoundReply (run_of D.content D.images D.moment D.left_since disk.old disk.new) identity.now (founding settings.now now)) (W.written out.old) (W.written out.new) result }
-    ensures write_fault { result ≡ Status.WriteFault → Rose (W.faults out.old) (W.faults out.new) }
-    ensures no_read { result ≢ Status.ReadFault }
-    ensures disk_fault { result ≡ Status.DiskFault → Rose (D.faults disk.old) (D.faults disk.new) }
+    ensures reply { IsFoundReply (run_of D.content D.images D.moment D.left_since disk.old disk.new) identity.now (founding settings.now now) result.status (text_of result.text) }
+    ensures streams { (result.status ≢ Status.WriteFault) × (result.status ≢ Status.ReadFault) }
+    ensures disk_fault { result.status ≡ Status.DiskFault → Rose (D.faults disk.old) (D.faults disk.new) }
 {
     let done = match founded_line(alloc, identity) {
         Ok(done) => done,
-        Err(_) => return no_memory(out),
+        Err(_) => return Reply::no_memory(),
     };
     match Desk::found(alloc, &mut *disk, settings, now) {
         Ok(desk) => {
             desk.stands_for_its_disk();
             let _disk = desk.into_disk();
-            finish(out, done.as_slice(), Status::Done)
+            Reply::made(Status::Done, done)
         }
         Err(failed) => {
             let fault = failed.1;
             let _disk = disk_of(failed);
-            finish_unfounded(fault, out)
+            unfounded_reply(fault)
         }
     }
 }
 
 /// Founds a service on the disk, unless it is founded. Such a disk stays as it was, also where it fails.
-fn found_once<D: Disk, W: Sink>(
+fn found_once<D: Disk>(
     alloc: Global,
     disk: &mut D,
     settings: &Settings,
     identity: &[u8; 96],
     now: u64,
-    out: &mut W,
-) -> Status
+) -> Reply
     requires { Allowed [] (founding settings.now now) }
-    ensures replied { Replied (IsFoundReply (run_of D.content D.images D.moment D.left_since disk.old disk.new) identity.now (founding settings.now now)) (W.written out.old) (W.written out.new) result }
-    ensures write_fault { result ≡ Status.WriteFault → Rose (W.faults out.old) (W.faults out.new) }
-    ensures no_read { result ≢ Status.ReadFault }
-    ensures disk_fault { result ≡ Status.DiskFault → Rose (D.faults disk.old) (D.faults disk.new) }
+    ensures reply { IsFoundReply (run_of D.content D.images D.moment D.left_since disk.old disk.new) identity.now (founding settings.now now) result.status (text_of result.text) }
+    ensures streams { (result.status ≢ Status.WriteFault) × (result.status ≢ Status.ReadFault) }
+    ensures disk_fault { result.status ≡ Status.DiskFault → Rose (D.faults disk.old) (D.faults disk.new) }
 {
     match is_founded(disk) {
-        Ok(false) => found_on(alloc, disk, settings, identity, now, out),
-        Ok(true) => finish(out, ALREADY, Status::Refused),
-        Err(_) => finish(out, DISK_FAULT, Status::DiskFault),
+        Ok(false) => found_on(alloc, disk, settings, identity, now),
+        Ok(true) => Reply::says(Status::Refused, ALREADY),
+        Err(_) => Reply::says(Status::DiskFault, DISK_FAULT),
     }
 }
 
 /// Founds a service with the settings of the input and the keys of the key file, at this time in seconds since 1970. The key file
 /// is read once the settings are, and the disk once the keys are made.
-pub fn run_init<D: Disk, S: Source, K: Source, W: Sink>(
+pub fn run_init<D: Disk, S: Source, K: Source>(
     alloc: Global,
     key: &mut K,
     input: &mut S,
     disk: &mut D,
     now: u64,
-    out: &mut W,
-) -> Status
+) -> Reply
     requires { now ≤ 250000000000 }
-    ensures ran { RanKeyed (S.left input.old) (K.left key.old) (IsInitReply (run_of D.content D.images D.moment D.left_since disk.old disk.new) now) (W.written out.old) (W.written out.new) result }
-    ensures unread { (file : List ℕ) (fault : RegFault) → S.left input.old ≡ Some file → settings_in file ≡ Err fault → key.new ≡ key.old }
-    ensures read_fault { result ≡ Status.ReadFault → Rose (S.faults input.old) (S.faults input.new) ⊎ Rose (K.faults key.old) (K.faults key.new) }
-    ensures write_fault { result ≡ Status.WriteFault → Rose (W.faults out.old) (W.faults out.new) }
-    ensures disk_fault { result ≡ Status.DiskFault → Rose (D.faults disk.old) (D.faults disk.new) }
+    ensures told { ToldBoth (S.left input.old) (K.left key.old) (IsInitReply (run_of D.content D.images D.moment D.left_since disk.old disk.new) (source_run S.faults input.old input.new) (source_run K.faults key.old key.new) now) result.status (text_of result.text) }
+    ensures taken { TakesUpTo file_most (S.left input.old) (S.left input.new) }
+    ensures key_taken { TakesUpTo key_most (K.left key.old) (K.left key.new) }
+    ensures read_fault { result.status ≡ Status.ReadFault → Rose (S.faults input.old) (S.faults input.new) ⊎ Rose (K.faults key.old) (K.faults key.new) }
+    ensures no_write { result.status ≢ Status.WriteFault }
+    ensures disk_fault { result.status ≡ Status.DiskFault → Rose (D.faults disk.old) (D.faults disk.new) }
 {
     let settings = match read_file(alloc, input) {
         Ok(settings) => settings,
-        Err(unread) => return finish_unread(alloc, unread, out),
+        Err(unread) => return unread_reply(alloc, unread),
     };
     let keys = match Keys::load(alloc, key, &settings) {
         Ok(keys) => keys,
-        Err(fault) => return finish_unloaded(fault, out),
+        Err(fault) => return unloaded_reply(fault),
     };
     let identity = keys.identity();
     let settings = with_keys(settings, &keys);
-    found_once(alloc, disk, &settings, &identity, now, out)
+    found_once(alloc, disk, &settings, &identity, now)
 }

@@ -2,14 +2,17 @@
 ghost use Rattle.std.specs.Prelude.{◌≡◌, ◌≢◌, ◌≤◌, None};
 ghost use Rattle.cmp_ports.specs.Disk.{LeavesOnly};
 ghost use Rattle.cmp_ports.specs.Faults.{Rose};
-ghost use Rattle.desk.specs.Images.{RecoversWith};
-ghost use Rattle.cmpca_tool.specs.Changes.{run_of};
+ghost use Rattle.desk.specs.History.{history_of};
+ghost use Rattle.desk.specs.Images.{RecoversWith, MayCome};
+ghost use Rattle.cmpca_tool.specs.Changes.{run_of, IsStep};
 ghost use Rattle.cmpca_tool.specs.Deeds.{Obeys, IsOrderedAt, ordered_status, ordered_line};
-ghost use Rattle.cmpca_tool.specs.Reply.{Replied, IsOrderReply};
+ghost use Rattle.cmpca_tool.specs.Reply.{IsOrderReply};
+ghost use Rattle.cmpca_tool.specs.Texts.{text_of};
 
-use crate::ending::{disk_of, finish, finish_unmounted};
+use crate::ending::disk_of;
+use crate::reply::{Reply, unmounted};
 use crate::status::Status;
-use cmp_ports::{Disk, Order, Sink};
+use cmp_ports::{Disk, Order};
 use desk::{Desk, Ordered};
 use desk_laws::at_most_one_answer;
 use std::alloc::Global;
@@ -29,7 +32,7 @@ fn ordered_status(ordered: Ordered) -> Status
 }
 
 /// What is written then, with this line where the order was obeyed.
-fn ordered_line<'a>(ordered: Ordered, done: &'a [u8]) -> &'a [u8]
+fn ordered_line(ordered: Ordered, done: &'static [u8]) -> &'static [u8]
     ensures { result.now ≡ ordered_line done.now ordered }
 {
     match ordered {
@@ -42,40 +45,32 @@ fn ordered_line<'a>(ordered: Ordered, done: &'a [u8]) -> &'a [u8]
 }
 
 /// Obeys an order at a desk where nothing is in doubt.
-fn order_on<F: Disk, W: Sink>(
-    desk: &mut Desk<F>,
-    order: &Order,
-    done: &[u8],
-    now: u64,
-    out: &mut W,
-) -> Status
+fn order_on<F: Disk>(desk: &mut Desk<F>, order: &Order, done: &'static [u8], now: u64) -> Reply
     requires clock { now ≤ 250000000000 }
     requires clear { desk.old.doubt ≡ None }
-    ensures replied { Replied (λ status text. Obeys order.now done.now now desk.old.history.items status text desk.new.history.items desk.new.doubt) (W.written out.old) (W.written out.new) result }
-    ensures moments { LeavesOnly F.moment F.left_since desk.old.disk desk.new.disk (RecoversWith desk.old.history.items (IsOrderedAt order.now now desk.old.history.items)) }
-    ensures write_fault { result ≡ Status.WriteFault → Rose (W.faults out.old) (W.faults out.new) }
-    ensures no_read { result ≢ Status.ReadFault }
-    ensures disk_fault { result ≡ Status.DiskFault → Rose (F.faults desk.old.disk) (F.faults desk.new.disk) }
+    ensures reply { Obeys order.now done.now now (history_of desk.old) result.status (text_of result.text) (history_of desk.new) desk.new.doubt }
+    ensures makes { IsStep (IsOrderedAt order.now now (history_of desk.old)) (history_of desk.old) (history_of desk.new) desk.new.doubt }
+    ensures moments { LeavesOnly F.moment F.left_since desk.old.disk desk.new.disk (RecoversWith (history_of desk.old) (MayCome (IsOrderedAt order.now now (history_of desk.old)) (history_of desk.old))) }
+    ensures streams { (result.status ≢ Status.WriteFault) × (result.status ≢ Status.ReadFault) }
+    ensures disk_fault { result.status ≡ Status.DiskFault → Rose (F.faults desk.old.disk) (F.faults desk.new.disk) }
     ensures loan { F.loan desk.new.disk ≡ F.loan desk.old.disk }
 {
     let ordered = desk.order(order, now);
-    finish(out, ordered_line(ordered, done), ordered_status(ordered))
+    Reply::says(ordered_status(ordered), ordered_line(ordered, done))
 }
 
-/// Obeys an order on the history that the disk holds, at this time in seconds since 1970, and writes this line where it is done.
-pub fn run_order<D: Disk, W: Sink>(
+/// Obeys an order on the history that the disk holds, at this time in seconds since 1970, and replies with this line where it is done.
+pub fn run_order<D: Disk>(
     alloc: Global,
     order: &Order,
-    done: &[u8],
+    done: &'static [u8],
     disk: &mut D,
     now: u64,
-    out: &mut W,
-) -> Status
+) -> Reply
     requires { now ≤ 250000000000 }
-    ensures replied { Replied (IsOrderReply (run_of D.content D.images D.moment D.left_since disk.old disk.new) order.now done.now now) (W.written out.old) (W.written out.new) result }
-    ensures write_fault { result ≡ Status.WriteFault → Rose (W.faults out.old) (W.faults out.new) }
-    ensures no_read { result ≢ Status.ReadFault }
-    ensures disk_fault { result ≡ Status.DiskFault → Rose (D.faults disk.old) (D.faults disk.new) }
+    ensures reply { IsOrderReply (run_of D.content D.images D.moment D.left_since disk.old disk.new) order.now done.now now result.status (text_of result.text) }
+    ensures streams { (result.status ≢ Status.WriteFault) × (result.status ≢ Status.ReadFault) }
+    ensures disk_fault { result.status ≡ Status.DiskFault → Rose (D.faults disk.old) (D.faults disk.new) }
 {
     at_most_one_answer();
     let mut desk = match Desk::mount(alloc, &mut *disk) {
@@ -83,11 +78,11 @@ pub fn run_order<D: Disk, W: Sink>(
         Err(failed) => {
             let fault = failed.1;
             let _disk = disk_of(failed);
-            return finish_unmounted(alloc, fault, out);
+            return unmounted(alloc, fault);
         }
     };
-    let status = order_on(&mut desk, order, done, now, out);
+    let reply = order_on(&mut desk, order, done, now);
     desk.stands_for_its_disk();
     let _disk = desk.into_disk();
-    status
+    reply
 }

@@ -4,8 +4,10 @@ ghost use Rattle.hex.specs.Hex.{encode_lower};
 ghost use Rattle.cmp_ports.specs.Coming.{Gives};
 ghost use Rattle.cmp_ports.specs.Disk.{LeavesOnly};
 ghost use Rattle.cmp_ports.specs.Faults.{Rose};
+ghost use Rattle.cmp_ports.specs.Whole.{TakesUpTo};
 ghost use Rattle.deal_model.specs.Views.{settings_of};
 ghost use Rattle.deal_table.specs.History.{IsFounded};
+ghost use Rattle.desk.specs.History.{history_of};
 ghost use Rattle.pki_message.specs.Frame.{message_limit};
 ghost use Rattle.reply_maker.specs.Keys.{AreUsable, Loaded, IsLoad};
 ghost use Rattle.reply_maker.specs.Keys as reply_maker;
@@ -13,15 +15,16 @@ ghost use Rattle.reply_maker.specs.Replies.{replier_of};
 ghost use Rattle.cmpca_tool.specs.Lines.{line};
 ghost use Rattle.cmpca_tool.specs.Changes.{run_of};
 ghost use Rattle.cmpca_tool.specs.Takes.{IsTakeReply, whole_identity, mismatch_lines};
-ghost use Rattle.cmpca_tool.specs.Status.{tells_bad_keys};
 ghost use Rattle.cmpca_tool.specs.Takings.{IsKeyReply, IsWhyUntaken, is_keyless, IsUntakenReply, IsAnswering, device_status, outcome_status, taken_status, taken_text};
-ghost use Rattle.cmpca_tool.specs.Reply.{Wrote, Replied, RanKeyed};
+ghost use Rattle.cmpca_tool.specs.Sources.{devices_of, ToldBoth, message_most, key_most};
+ghost use Rattle.cmpca_tool.specs.Texts.{text_of};
 
-use crate::ending::{disk_of, finish, finish_unmounted, no_memory};
+use crate::ending::disk_of;
+use crate::reply::{Reply, unmounted};
 use crate::status::{Identity, Status};
 use cmp_ports::{
-    Answered, Answerer, Clock, Disk, Entropy, Gate, Octets, Outcome, Point, ReadError, Sink,
-    Source, read_up_to,
+    Answered, Answerer, Clock, Disk, Entropy, Gate, Octets, Outcome, Point, ReadError, Source,
+    read_up_to,
 };
 use deal_model::{Change, Settings};
 use desk::{Desk, SoleClerk};
@@ -97,35 +100,33 @@ fn mismatch_lines(alloc: Global, file: &[u8; 96], journal: &[u8; 96]) -> Result<
     Ok(text)
 }
 
-/// Ends a run whose key file is another authority's.
-fn finish_mismatch<W: Sink>(alloc: Global, file: [u8; 96], journal: [u8; 96], out: &mut W) -> Status
-    ensures replied { Replied (IsKeyReply (KeyFault.KeyMismatch file journal)) (W.written out.old) (W.written out.new) result }
-    ensures write_fault { result ≡ Status.WriteFault → Rose (W.faults out.old) (W.faults out.new) }
-    ensures devices { (result ≢ Status.ReadFault) × (result ≢ Status.DiskFault) }
+/// The reply of a run whose key file is another authority's.
+fn mismatch_reply(alloc: Global, file: [u8; 96], journal: [u8; 96]) -> Reply
+    ensures reply { IsKeyReply (KeyFault.KeyMismatch file journal) result.status (text_of result.text) }
+    ensures devices { (result.status ≢ Status.WriteFault) × (result.status ≢ Status.ReadFault) × (result.status ≢ Status.DiskFault) }
 {
     let text = match mismatch_lines(alloc, &file, &journal) {
         Ok(text) => text,
-        Err(_) => return no_memory(out),
+        Err(_) => return Reply::no_memory(),
     };
     let status = Status::KeyMismatch {
         file: whole_identity(file),
         journal: whole_identity(journal),
     };
-    finish(out, text.as_slice(), status)
+    Reply::made(status, text)
 }
 
-/// Ends a run whose key file gives no keys.
-fn finish_keyless<W: Sink>(alloc: Global, fault: KeyFault, out: &mut W) -> Status
-    ensures replied { Replied (IsKeyReply fault) (W.written out.old) (W.written out.new) result }
-    ensures write_fault { result ≡ Status.WriteFault → Rose (W.faults out.old) (W.faults out.new) }
-    ensures read_fault { result ≡ Status.ReadFault → fault ≡ KeyFault.ReadFault }
-    ensures no_disk { result ≢ Status.DiskFault }
+/// The reply of a run whose key file gives no keys.
+pub fn keyless_reply(alloc: Global, fault: KeyFault) -> Reply
+    ensures reply { IsKeyReply fault result.status (text_of result.text) }
+    ensures read_fault { result.status ≡ Status.ReadFault → fault ≡ KeyFault.ReadFault }
+    ensures devices { (result.status ≢ Status.WriteFault) × (result.status ≢ Status.DiskFault) }
 {
     match fault {
-        KeyFault::ReadFault => finish(out, b"read fault\n", Status::ReadFault),
-        KeyFault::BadKeyFile => finish(out, b"bad key file\n", Status::BadKeyFile),
-        KeyFault::KeyMismatch { file, journal } => finish_mismatch(alloc, file, journal, out),
-        KeyFault::NoMemory => no_memory(out),
+        KeyFault::ReadFault => Reply::read_fault(),
+        KeyFault::BadKeyFile => Reply::says(Status::BadKeyFile, b"bad key file\n"),
+        KeyFault::KeyMismatch { file, journal } => mismatch_reply(alloc, file, journal),
+        KeyFault::NoMemory => Reply::no_memory(),
     }
 }
 
@@ -133,7 +134,6 @@ fn finish_keyless<W: Sink>(alloc: Global, fault: KeyFault, out: &mut W) -> Statu
 fn device_status(failed: Option<Device>) -> Status
     ensures status { result ≡ device_status failed }
     ensures no_write { result ≢ Status.WriteFault }
-    ensures keyed { tells_bad_keys result ≡ false }
 {
     match failed {
         Some(Device::Entropy) => Status::ReadFault,
@@ -145,7 +145,6 @@ fn device_status(failed: Option<Device>) -> Status
 fn outcome_status(outcome: Outcome, failed: Option<Device>) -> Status
     ensures status { result ≡ outcome_status outcome failed }
     ensures no_write { result ≢ Status.WriteFault }
-    ensures keyed { tells_bad_keys result ≡ false }
 {
     match outcome {
         Outcome::Done | Outcome::Again => Status::Done,
@@ -154,29 +153,27 @@ fn outcome_status(outcome: Outcome, failed: Option<Device>) -> Status
     }
 }
 
-/// Ends a run whose message was answered.
-fn finish_taken<W: Sink>(taken: &Taken, out: &mut W) -> Status
-    requires { taken.now.answered ≢ Answered.Failed }
-    ensures wrote { Wrote (W.written out.old) (W.written out.new) (taken_status taken.now.answered taken.now.failed) (taken_text taken.now.answered taken.now.reply) result }
-    ensures write_fault { result ≡ Status.WriteFault → Rose (W.faults out.old) (W.faults out.new) }
-    ensures keyed { tells_bad_keys result ≡ false }
+/// The reply of a run whose message was answered.
+fn taken_reply(taken: Taken) -> Reply
+    requires { taken.answered ≢ Answered.Failed }
+    ensures ends { result.status ≡ taken_status taken.answered taken.failed }
+    ensures says { text_of result.text ≡ taken_text taken.answered taken.reply }
+    ensures no_write { result.status ≢ Status.WriteFault }
 {
     match taken.answered {
-        Answered::Replied(note) => finish(
-            out,
-            taken.reply.as_slice(),
-            outcome_status(note.outcome, taken.failed),
-        ),
+        Answered::Replied(note) => {
+            Reply::made(outcome_status(note.outcome, taken.failed), taken.reply)
+        }
         Answered::Failed => unreachable!(),
-        Answered::NoMemory => no_memory(out),
+        Answered::NoMemory => Reply::no_memory(),
     }
 }
 
 /// The settings that the history of a desk was founded with.
-fn settings_at<F: Disk>(desk: &Desk<F>) -> &Settings
-    ensures same { result.now ≡ settings_of desk.now.history.items }
+pub fn settings_at<F: Disk>(desk: &Desk<F>) -> &Settings
+    ensures same { result.now ≡ settings_of (history_of desk.now) }
     ensures usable { AreUsable result.now }
-    ensures founded { IsFounded desk.now.history.items }
+    ensures founded { IsFounded (history_of desk.now) }
 {
     desk.stands_for_its_disk();
     match desk.change_at(1) {
@@ -198,6 +195,8 @@ fn read_request<S: Source, K: Source>(
     ensures bound { IfOk result (λ r. length r.octets.items ≤ message_limit + 1) }
     ensures unread { IfErr result (IsWhyUntaken (K.left key.old) settings.now) }
     ensures untouched { IfErr result (λ untaken. is_keyless untaken ≡ true → input.new ≡ input.old) }
+    ensures taken { TakesUpTo message_most (S.left input.old) (S.left input.new) }
+    ensures key_taken { TakesUpTo key_most (K.left key.old) (K.left key.new) }
     ensures input_fault { result ≡ Err Untaken.ReadFault → Rose (S.faults input.old) (S.faults input.new) }
     ensures key_fault { result ≡ Err (Untaken.Keyless KeyFault.ReadFault) → Rose (K.faults key.old) (K.faults key.new) }
 {
@@ -212,18 +211,16 @@ fn read_request<S: Source, K: Source>(
     }
 }
 
-/// Ends a run that has no message to answer.
-fn finish_untaken<W: Sink>(alloc: Global, untaken: Untaken, out: &mut W) -> Status
-    ensures replied { Replied (IsUntakenReply untaken) (W.written out.old) (W.written out.new) result }
-    ensures write_fault { result ≡ Status.WriteFault → Rose (W.faults out.old) (W.faults out.new) }
-    ensures read_fault { result ≡ Status.ReadFault → (untaken ≡ Untaken.ReadFault) ⊎ (untaken ≡ Untaken.Keyless KeyFault.ReadFault) }
-    ensures no_disk { result ≢ Status.DiskFault }
-    ensures keyless { tells_bad_keys result ≡ true → is_keyless untaken ≡ true }
+/// The reply of a run that has no message to answer.
+fn untaken_reply(alloc: Global, untaken: Untaken) -> Reply
+    ensures reply { IsUntakenReply untaken result.status (text_of result.text) }
+    ensures read_fault { result.status ≡ Status.ReadFault → (untaken ≡ Untaken.ReadFault) ⊎ (untaken ≡ Untaken.Keyless KeyFault.ReadFault) }
+    ensures devices { (result.status ≢ Status.WriteFault) × (result.status ≢ Status.DiskFault) }
 {
     match untaken {
-        Untaken::Keyless(fault) => finish_keyless(alloc, fault, out),
-        Untaken::ReadFault => finish(out, b"read fault\n", Status::ReadFault),
-        Untaken::NoMemory => no_memory(out),
+        Untaken::Keyless(fault) => keyless_reply(alloc, fault),
+        Untaken::ReadFault => Reply::read_fault(),
+        Untaken::NoMemory => Reply::no_memory(),
     }
 }
 
@@ -236,9 +233,9 @@ fn answer_on<F: Disk, C: Clock, E: Entropy>(
     entropy: &mut E,
 ) -> Taken
     requires clear { desk.old.doubt ≡ None }
-    requires founded { IsFounded desk.old.history.items }
-    requires settings { settings_of desk.old.history.items ≡ request.now.keys.settings }
-    ensures answering { IsAnswering (replier_of request.now.keys.file request.now.keys.settings) request.now.octets.items (Gives (C.readings clock.old) (C.readings clock.new)) (Gives (E.draws entropy.old) (E.draws entropy.new)) (LeavesOnly F.moment F.left_since desk.old.disk desk.new.disk) desk.old.history.items desk.new.history.items desk.new.doubt (taken_status result.answered result.failed) (taken_text result.answered result.reply) }
+    requires founded { IsFounded (history_of desk.old) }
+    requires settings { settings_of (history_of desk.old) ≡ request.now.keys.settings }
+    ensures answering { IsAnswering (replier_of request.now.keys.file request.now.keys.settings) request.now.octets.items (Gives (C.readings clock.old) (C.readings clock.new)) (Gives (E.draws entropy.old) (E.draws entropy.new)) (LeavesOnly F.moment F.left_since desk.old.disk desk.new.disk) (history_of desk.old) (history_of desk.new) desk.new.doubt (taken_status result.answered result.failed) (taken_text result.answered result.reply) }
     ensures always { result.answered ≢ Answered.Failed }
     ensures disk_fault { taken_status result.answered result.failed ≡ Status.DiskFault → Rose (F.faults desk.old.disk) (F.faults desk.new.disk) }
     ensures entropy_fault { taken_status result.answered result.failed ≡ Status.ReadFault → Rose (E.faults entropy.old) (E.faults entropy.new) }
@@ -268,21 +265,22 @@ fn answer_on<F: Disk, C: Clock, E: Entropy>(
 }
 
 /// Answers the message of the input over the history that the disk holds, with the keys of the key file. The disk is mounted first;
-/// then the key file is read, and then the input; then the clock is read and words are drawn, each once.
-pub fn run_take<D: Disk, S: Source, K: Source, C: Clock, E: Entropy, W: Sink>(
+/// then the key file is read, and then the input; then the clock is read and words are drawn, each once. Where one of these ends the
+/// run, nothing of those behind it is read.
+pub fn run_take<D: Disk, S: Source, K: Source, C: Clock, E: Entropy>(
     alloc: Global,
     key: &mut K,
     input: &mut S,
     disk: &mut D,
     clock: &mut C,
     entropy: &mut E,
-    out: &mut W,
-) -> Status
-    ensures ran { RanKeyed (S.left input.old) (K.left key.old) (IsTakeReply (run_of D.content D.images D.moment D.left_since disk.old disk.new) ((clock.new ≡ clock.old) × (entropy.new ≡ entropy.old)) (Gives (C.readings clock.old) (C.readings clock.new)) (Gives (E.draws entropy.old) (E.draws entropy.new))) (W.written out.old) (W.written out.new) result }
-    ensures untouched { tells_bad_keys result ≡ true → input.new ≡ input.old }
-    ensures write_fault { result ≡ Status.WriteFault → Rose (W.faults out.old) (W.faults out.new) }
-    ensures read_fault { result ≡ Status.ReadFault → (Rose (S.faults input.old) (S.faults input.new) ⊎ Rose (K.faults key.old) (K.faults key.new)) ⊎ Rose (E.faults entropy.old) (E.faults entropy.new) }
-    ensures disk_fault { result ≡ Status.DiskFault → Rose (D.faults disk.old) (D.faults disk.new) }
+) -> Reply
+    ensures told { ToldBoth (S.left input.old) (K.left key.old) (IsTakeReply (run_of D.content D.images D.moment D.left_since disk.old disk.new) (devices_of S.faults K.faults E.faults input.old input.new key.old key.new clock.old clock.new entropy.old entropy.new) (Gives (C.readings clock.old) (C.readings clock.new)) (Gives (E.draws entropy.old) (E.draws entropy.new))) result.status (text_of result.text) }
+    ensures taken { TakesUpTo message_most (S.left input.old) (S.left input.new) }
+    ensures key_taken { TakesUpTo key_most (K.left key.old) (K.left key.new) }
+    ensures read_fault { result.status ≡ Status.ReadFault → (Rose (S.faults input.old) (S.faults input.new) ⊎ Rose (K.faults key.old) (K.faults key.new)) ⊎ Rose (E.faults entropy.old) (E.faults entropy.new) }
+    ensures no_write { result.status ≢ Status.WriteFault }
+    ensures disk_fault { result.status ≡ Status.DiskFault → Rose (D.faults disk.old) (D.faults disk.new) }
 {
     at_most_one_answer();
     let mut desk = match Desk::mount(alloc, &mut *disk) {
@@ -290,7 +288,7 @@ pub fn run_take<D: Disk, S: Source, K: Source, C: Clock, E: Entropy, W: Sink>(
         Err(failed) => {
             let fault = failed.1;
             let _disk = disk_of(failed);
-            return finish_unmounted(alloc, fault, out);
+            return unmounted(alloc, fault);
         }
     };
     match read_request(alloc, key, input, settings_at(&desk)) {
@@ -298,12 +296,12 @@ pub fn run_take<D: Disk, S: Source, K: Source, C: Clock, E: Entropy, W: Sink>(
             let taken = answer_on(alloc, &request, &mut desk, clock, entropy);
             desk.stands_for_its_disk();
             let _disk = desk.into_disk();
-            finish_taken(&taken, out)
+            taken_reply(taken)
         }
         Err(untaken) => {
             desk.stands_for_its_disk();
             let _disk = desk.into_disk();
-            finish_untaken(alloc, untaken, out)
+            untaken_reply(alloc, untaken)
         }
     }
 }

@@ -1,24 +1,24 @@
 -- The reply is by the mount, and by what the desk did.
-use Rattle.std.proofs.Common.{rules, MutBor, subst}
+use Rattle.std.proofs.Common.{rules, MutBor, inl, inr, subst}
 use Rattle.cmp_ports.specs.Faults.{Rose}
 use Rattle.cmpca_tool.specs.Deeds.{Dismisses, IsDismissedAt}
 use Rattle.cmpca_tool.proofs.ChangeLemmas.{gave_back, acted}
 use Rattle.cmpca_tool.proofs.dismiss.run_dismiss.Goals as goal
 
-pub returns-in-Err-clause-replied : goal.returns-in-Err-clause-replied
-returns-in-Err-clause-replied g c =
-    gave_back (λ (r : MutBor g.row.D.Denot). r.now) g.D.Disk.content g.D.Disk.images g.D.Disk.moment g.D.Disk.left_since g.met.D.Disk.honest c.at_most_one_answer.ensures
-    _ c.in-Err.failed.0 _ (Dismisses c.args.kind c.args.id.now c.args.now) (IsDismissedAt c.args.kind c.args.id.now c.args.now) c.in-Err.failed.1 _ _ _
-    (search (rules, c.in-Err.ensures.loan)) c.in-Err.ensures.told c.in-Err.ensures.same c.in-Err.ensures.crash c.in-Err.ensures.moments c.finish_unmounted.ensures.replied
+pub returns-in-Err-clause-reply : goal.returns-in-Err-clause-reply
+returns-in-Err-clause-reply g c = inl
+    (gave_back (λ (r : MutBor g.row.D.Denot). r.now) g.D.Disk.content g.D.Disk.images g.D.Disk.moment g.D.Disk.left_since g.met.D.Disk.honest c.at_most_one_answer.ensures
+    _ c.in-Err.failed.0 _ c.in-Err.failed.1 _ _
+    (search (rules, c.in-Err.ensures.loan)) c.in-Err.ensures.told c.in-Err.ensures.same c.in-Err.ensures.crash c.in-Err.ensures.moments c.unmounted.ensures.reply)
 
-pub returns-clause-replied : goal.returns-clause-replied
-returns-clause-replied g c =
-    acted (λ (r : MutBor g.row.D.Denot). r.now) g.D.Disk.content g.D.Disk.images g.D.Disk.moment g.D.Disk.left_since g.met.D.Disk.honest c.at_most_one_answer.ensures
-    _ c.in-Ok.desk.disk c.dismiss_on-status.new.desk.disk _ (Dismisses c.args.kind c.args.id.now c.args.now) (IsDismissedAt c.args.kind c.args.id.now c.args.now) c.in-Ok.desk.history.items c.dismiss_on-status.new.desk.history.items c.dismiss_on-status.new.desk.doubt _ _ _
-    (search rules) c.in-Ok.ensures.told c.in-Ok.ensures.moments c.dismiss_on-status.ensures.moments c.stands_for_its_disk.ensures.images c.stands_for_its_disk.ensures.lawful c.dismiss_on-status.ensures.replied
+pub returns-clause-reply : goal.returns-clause-reply
+returns-clause-reply g c = inr
+    (acted (λ (r : MutBor g.row.D.Denot). r.now) g.D.Disk.content g.D.Disk.images g.D.Disk.moment g.D.Disk.left_since g.met.D.Disk.honest c.at_most_one_answer.ensures
+    _ c.in-Ok.desk.disk c.dismiss_on-reply.new.desk.disk _ (Dismisses c.args.kind c.args.id.now c.args.now) (IsDismissedAt c.args.kind c.args.id.now c.args.now) c.in-Ok.desk.history.items c.dismiss_on-reply.new.desk.history.items c.dismiss_on-reply.new.desk.doubt _ _
+    (search rules) c.in-Ok.ensures.told c.in-Ok.ensures.moments c.dismiss_on-reply.ensures.moments c.stands_for_its_disk.ensures.images c.stands_for_its_disk.ensures.lawful c.dismiss_on-reply.ensures.makes c.dismiss_on-reply.ensures.reply)
 
 pub returns-in-Err-clause-disk_fault : goal.returns-in-Err-clause-disk_fault
-returns-in-Err-clause-disk_fault g c = λ e. subst (λ d. Rose (g.D.Disk.faults c.args.disk.now) (g.D.Disk.faults d)) (search (rules, c.in-Err.ensures.loan)) (c.in-Err.ensures.fault (c.finish_unmounted.ensures.disk_fault e))
+returns-in-Err-clause-disk_fault g c = λ e. subst (λ d. Rose (g.D.Disk.faults c.args.disk.now) (g.D.Disk.faults d)) (search (rules, c.in-Err.ensures.loan)) (c.in-Err.ensures.fault (c.unmounted.ensures.disk e))
 
 pub returns-clause-disk_fault : goal.returns-clause-disk_fault
-returns-clause-disk_fault g c = λ e. subst (λ d. Rose (g.D.Disk.faults c.args.disk.now) (g.D.Disk.faults d)) (search rules) (rw c.in-Ok.ensures.later at c.dismiss_on-status.ensures.disk_fault e)
+returns-clause-disk_fault g c = λ e. subst (λ d. Rose (g.D.Disk.faults c.args.disk.now) (g.D.Disk.faults d)) (search rules) (rw c.in-Ok.ensures.later at c.dismiss_on-reply.ensures.disk_fault e)

@@ -26,7 +26,7 @@ returns-clause-answering g c =
     (search (rules, c.new-front.ensures.entropy))
     (search (rules, a.entropy, c.new-front.ensures.entropy, c.into_parts-clerk.ensures.entropy))
     (sym c.failed-failed.ensures)
-    (record { now = r.now; reading = r.reading; draw = r.draw; drawn = r.drawn; ends = r.ends; doubt = r.doubt; moments = record { later = r.moments.later; each = r.moments.each; before = r.moments.before } })
+    (record { now = r.now; reading = r.reading; draw = r.draw; drawn = r.drawn; letter = r.letter; makes = r.makes; ends = r.ends; doubt = r.doubt; moments = record { later = r.moments.later; each = r.moments.each; before = r.moments.before } })
 
 pub returns-clause-always : goal.returns-clause-always
 returns-clause-always g c = answers_always _ _ _ _ _ _ _ _ c.answer-answered.ensures.answered
