@@ -68,11 +68,18 @@ def of_length(home, length):
     return message(home.device, enrolment(IR, home.new, name=name)), Wish(name, home.new.info)
 
 
+def with_extra(whole, entry):
+    """The message with this entry in its extraCerts, which no protection covers (RFC 9810, 5.1)."""
+    return sequence(first(whole)[1], der(0xA1, sequence(entry)))
+
+
 def forms(home):
-    """Octets that are no message."""
+    """Octets that are no message, and neighbours that are one."""
     whole = message(home.device, enrolment(IR, home.new)).octets
     twice = extension_request(CLIENT) + extension_request(NAMED)
     longest, wish = of_length(home, LIMIT)
+    name = common_name("whole")
+    named = message(home.device, enrolment(IR, home.new, name=name))
     return [
         unreadable("no octets", home.device, b"", nests=False),
         unreadable("an octet cut off", home.device, whole[:-1], nests=False),
@@ -83,6 +90,9 @@ def forms(home):
         unreadable("a nested body without a message", home.device, message(home.device, der(NESTED, sequence())).octets),
         unreadable("PKCS #10 that asks for extensions twice", home.device, message(home.device, pkcs10(home.new, attributes=twice)).octets),
         unreadable("extraCerts without a certificate", home.device, sequence(first(whole)[1], der(0xA1, sequence()))),
+        unreadable("an extraCerts entry whose content is no element", home.device, with_extra(whole, bytes.fromhex("300100"))),
+        unreadable("an extraCerts entry that is no SEQUENCE", home.device, with_extra(whole, NULL)),
+        Row("an extraCerts entry of whole elements", named._replace(octets=with_extra(named.octets, sequence(NULL))), granted(IP, Wish(name, home.new.info))),
     ]
 
 

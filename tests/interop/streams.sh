@@ -60,10 +60,10 @@ closed() {
     esac
 }
 
-# Whether the journal still begins with what it held.
+# Whether the journal still begins with what it held. Its last octet is the gate of the next record, which a change opens.
 kept() {
-    size=$(wc -c <start)
-    if head -c "$size" journal | cmp -s - start; then echo yes; else echo no; fi
+    size=$(($(wc -c <start) - 1))
+    if cmp -s -n "$size" journal start; then echo yes; else echo no; fi
 }
 
 # Whether two files are the same.
