@@ -1,0 +1,7 @@
+pub mod Changed
+mod Undone
+pub mod Spared
+mod Init
+mod Take
+mod Listed
+mod Law
