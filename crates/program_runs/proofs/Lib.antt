@@ -5,3 +5,4 @@ mod Init
 mod Take
 mod Listed
 mod Law
+mod Following

@@ -1,6 +1,8 @@
-//! Each run of the program is a visit of its disk, as the law of all runs asks for.
+//! Each run of the program is a visit of its disk, and all runs on one disk have one history.
 #![tactic(auto)]
 
+mod all;
 mod laws;
 
+pub use all::all_program_runs_have_one_history;
 pub use laws::every_run_is_a_visit;
