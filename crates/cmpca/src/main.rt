@@ -13,8 +13,9 @@ use cmp_ports::{
     FileDisk, FileEntropy, FileSource, Opening, StdSink, StdSource, SysClock, hold_streams,
     is_one_file, others_may_read,
 };
-use cmpca_tool::{Status, no_memory, run_tool};
+use cmpca_tool::{Status, no_memory};
 use heard::Heard;
+use program_runs::run_program;
 use std::alloc::{AllocError, Global};
 use std::process::ExitCode;
 use std::{env, io};
@@ -85,7 +86,7 @@ fn run_words(
     let mut entropy = FileEntropy::new(rt, String::from_str(alloc, ENTROPY)?);
     let mut input = StdSource::new(rt.stdin());
     let mut clock = SysClock::new(rt);
-    let status = run_tool(
+    let status = run_program(
         alloc,
         words,
         &mut key,

@@ -6,3 +6,4 @@ mod Take
 mod Listed
 mod Law
 mod Following
+mod Joined

@@ -3,6 +3,8 @@
 
 mod all;
 mod laws;
+mod program;
 
 pub use all::all_program_runs_have_one_history;
 pub use laws::every_run_is_a_visit;
+pub use program::run_program;
