@@ -1,0 +1,6 @@
+-- no semicolon so far
+use Rattle.std.proofs.Common.{◌≡◌, ℕ, ◌<◌, get_or}
+use Rattle.http_heads.proofs.rows.before_semicolon.Given as goal
+
+abbrev pub invariant-loop-count : goal.invariant-loop-count
+invariant-loop-count l = (k : ℕ) → k < l.count → get_or l.text k 0 ≡ 59 → ⊥
