@@ -9,6 +9,8 @@ mod number;
 mod one_reading;
 mod read;
 mod rows;
+#[cfg(test)]
+mod tests;
 
 pub use fields::{Values, is_same, values_of};
 pub use next::{Next, next_request};
