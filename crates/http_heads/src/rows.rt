@@ -11,9 +11,9 @@ use crate::fields::{Values, is_same, values_of};
 use crate::number::number_of;
 use httparse::spans::HeaderSpan;
 
-/// The path of the service (RFC 9811, 3.3).
+/// The path of the service (RFC 9811, 3).
 const PATH: &[u8] = b"/.well-known/cmp";
-/// The type of a PKIMessage (RFC 9811, 3.1).
+/// The type of a PKIMessage (RFC 9811, 3).
 const TYPE: &[u8] = b"application/pkixcmp";
 /// How many octets a body has at most.
 const BODY_LIMIT: usize = 131_072;
