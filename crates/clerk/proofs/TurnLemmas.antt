@@ -2,6 +2,7 @@
 use Rattle.std.proofs.Common.{◌≡◌, ℕ, ◌≤◌, List, ◌++◌, Option, Some, None, sym, ◌∙◌, ap, subst, append_assoc}
 use Rattle.std.proofs.Math.Logic.{∥∥₁_map}
 use Rattle.std.specs.Prelude.{MatchOption, IfSome}
+use Rattle.deal_changes.specs.declared.change.Change.{Change}
 use Rattle.deal_model.specs.Rules.{Allowed, Legal}
 use Rattle.deal_model.specs.Views.{History}
 use Rattle.deal_model.specs.declared.asking.Checked.{Checked}
@@ -17,6 +18,10 @@ begins_on xs ys zs first second = (first.0 ++ second.0, second.1 ∙ ap (λ (l :
 -- what a seat has seen is legal where it is a desk's history
 pub seen_lawful : {P : Type 0} (seen h : History) → seen ≡ h → ∥ Legal h × P ∥₁ → ∥ Legal seen × IfSome None (Allowed seen) ∥₁
 seen_lawful seen h is t = ∥∥₁_map t (λ l. (subst Legal (sym is) l.0, tt))
+
+-- a history is as lawful, with what is in doubt behind it, under another name
+pub still_lawful : (h g : History) (d e : Option Change) → h ≡ g → d ≡ e → ∥ Legal h × IfSome d (Allowed h) ∥₁ → ∥ Legal g × IfSome e (Allowed g) ∥₁
+still_lawful h g d e same also = subst (λ (x : History). ∥ Legal h × IfSome d (Allowed h) ∥₁ → ∥ Legal x × IfSome e (Allowed x) ∥₁) same (subst (λ (y : Option Change). ∥ Legal h × IfSome d (Allowed h) ∥₁ → ∥ Legal h × IfSome y (Allowed h) ∥₁) also (λ t. t))
 
 -- a mark that was handed in raised the count
 pub marked : {M : Type 0} (mark : Option M) (Failed Still R : Type 0) (P : M → Type 0) → MatchOption mark (Failed → ⊥) P → MatchOption mark Still (λ m. R) → Failed → R

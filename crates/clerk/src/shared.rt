@@ -14,6 +14,7 @@ use turnstile::{Seat, Turnstile};
 /// Keeps the mark of a desk's last call, where the disk failed under it.
 fn keep_mark<D: Disk>(marks: &mut FaultMarks, desk: &mut Desk<D>)
     ensures history { desk.new.history ≡ desk.old.history }
+    ensures doubt { desk.new.doubt ≡ desk.old.doubt }
     ensures none { desk.new.mark ≡ None }
     ensures rose { MatchOption desk.old.mark (marks.new ≡ marks.old) (λ _. Rose marks.old marks.new) }
     ensures later { marks.old ≤ marks.new }

@@ -12,7 +12,7 @@ ghost use Rattle.desk.specs.Due.{event_time, IsLapse};
 ghost use Rattle.desk.specs.Calls.{IsLapsed, IsOrder, IsOrdered};
 ghost use Rattle.desk.specs.Images.{RecoversWith, IsDoubt, DoubtOr, MayCome};
 ghost use Rattle.desk.specs.Verdicts.{Decides, IsInTime, LeftMakes, IsLeft};
-ghost use Rattle.desk.specs.Clerks.{decided_place, lapsed_place, ordered_place, IsLapsedSince, IsOrderedSince};
+ghost use Rattle.desk.specs.Clerks.{decided_place, lapsed_place, ordered_place, IsDecidedSince, IsLapsedSince, IsOrderedSince};
 
 use crate::answers::{Lapsed, Ordered};
 use crate::receipt::Receipt;
@@ -99,6 +99,7 @@ pub trait Clerk {
         // Each message that the Checked carries, by a history that its maker has seen, is decided so.
         ensures verdict { (l : Letter) (looked : List Change) → Begins looked (seen self.old) → Carries l (untold checked.now) looked → HashIsTold l checked.now (seen self.old) → Decides l checked.now (seen self.old) (seen self.new) now words.now result }
         ensures time { IsInTime result }
+        ensures ends { IsDecidedSince (seen self.old) (seen self.new) checked.now now words.now result }
         ensures mine { mine self.new ≡ mine self.old ++ decided_place result }
         ensures fault { result ≡ Verdict.DiskFault → Rose (faults self.old) (faults self.new) }
         ensures later { faults self.old ≤ faults self.new }

@@ -67,15 +67,18 @@ fault : (P : Type 0) (Own : Change → Type 0) (h g : History) (d e : Option Cha
 fault P Own h g d e may same (inl new) = (failing d new.0, inr (new.0, new.1, refl), there h h g d (Some new.0) e (failing d new.0) (failed h d new.0 (doubt_allowed h g e new.0 may same new.2)) same new.2)
 fault P Own h g d e may same (inr kept) = ([], inl refl, same_leads h g d e (same, kept.1))
 
-pub decided : (h g : History) (d e : Option Change) (k : Checked) (now : ℕ) (words : List ℕ) (v : Verdict) → IsLawful h d → IsLawful g e → IsLeft k now words h d v g e → AreSteps (IsDecidedBy d (LeftMakes h k now words) v) h d g e
-decided h g d e k now words (verdict.Done r) before later left =
+pub decided_of : (h g : History) (d e : Option Change) (k : Checked) (now : ℕ) (words : List ℕ) (v : Verdict) → IsLawful g e → IsLeft k now words h d v g e → AreSteps (IsDecidedBy d (LeftMakes h k now words) v) h d g e
+decided_of h g d e k now words (verdict.Done r) later left =
     let may : Allowed h r.change = last_allowed h g r.change later.0 left.1.grown in
     (adding d r.change, (left.0, refl), there h (h ++ r.change ∷ []) g d None e (adding d r.change) (added h d r.change may) left.1.grown left.2)
-decided h g d e k now words (verdict.Again r place time) before later left = (settling d, refl, settled_leads h g d e left.3)
-decided h g d e k now words (verdict.Refused fail place time is_guarded to_outer) before later left = (settling d, refl, settled_leads h g d e left.2)
-decided h g d e k now words (verdict.Stale place) before later left = (settling d, refl, settled_leads h g d e left.1)
-decided h g d e k now words verdict.DiskFault before later left = fault _ (LeftMakes h k now words) h g d e later.1 left.0 left.1
-decided h g d e k now words verdict.NoMemory before later left = ([], refl, same_leads h g d e left)
+decided_of h g d e k now words (verdict.Again r place time) later left = (settling d, refl, settled_leads h g d e left.3)
+decided_of h g d e k now words (verdict.Refused fail place time is_guarded to_outer) later left = (settling d, refl, settled_leads h g d e left.2)
+decided_of h g d e k now words (verdict.Stale place) later left = (settling d, refl, settled_leads h g d e left.1)
+decided_of h g d e k now words verdict.DiskFault later left = fault _ (LeftMakes h k now words) h g d e later.1 left.0 left.1
+decided_of h g d e k now words verdict.NoMemory later left = ([], refl, same_leads h g d e left)
+
+pub decided : (h g : History) (d e : Option Change) (k : Checked) (now : ℕ) (words : List ℕ) (v : Verdict) → IsLawful h d → IsLawful g e → IsLeft k now words h d v g e → AreSteps (IsDecidedBy d (LeftMakes h k now words) v) h d g e
+decided h g d e k now words v before later left = decided_of h g d e k now words v later left
 
 -- ---- lapses, orders, listings and dismissals
 

@@ -1,7 +1,7 @@
 //! The laws, as the contracts of functions that do nothing.
 ghost use Rattle.desk_steps.specs.Calls.{LookedIsSteps, DecidedIsSteps, LapsedIsSteps, OrderedIsSteps, EnlistedIsSteps, DismissedIsSteps, StopIsSteps};
 ghost use Rattle.desk_steps.specs.Openings.{FoundIsSteps, FirstMountIsSteps, MountIsSteps, RemountIsSteps, DecideStops, LapseStops, OrderStops, EnlistStops, DismissStops, IdleStops};
-ghost use Rattle.desk_steps.specs.Shared.{SharedDecidedIsSteps, SharedLapsedIsSteps, SharedOrderedIsSteps};
+ghost use Rattle.desk_steps.specs.Shared.{SharedDecidedIsSteps, SharedMakesIsSteps, SharedLapsedIsSteps, SharedOrderedIsSteps};
 
 use deal_model::legal_histories_grow;
 use desk_laws::at_most_one_answer;
@@ -45,9 +45,10 @@ pub fn stops_are_steps()
     legal_histories_grow();
 }
 
-/// The calls of a clerk that shares its desk, by what the contract of a clerk says of them.
+/// The calls of a clerk that shares its desk, by what the contract of a clerk says of each of their ends.
 pub fn shared_calls_are_steps()
     ensures decided { SharedDecidedIsSteps }
+    ensures makes { SharedMakesIsSteps }
     ensures lapsed { SharedLapsedIsSteps }
     ensures ordered { SharedOrderedIsSteps }
 {}

@@ -1,4 +1,4 @@
-use Rattle.desk_steps.proofs.Shared.{shared_decided, shared_lapsed, shared_ordered}
+use Rattle.desk_steps.proofs.Shared.{shared_decided, shared_makes, shared_lapsed, shared_ordered}
 use Rattle.desk_steps.proofs.laws.shared_calls_are_steps.Goals as goal
 
 pub returns-clause-decided : goal.returns-clause-decided

@@ -3,8 +3,9 @@ use Rattle.deal_model.specs.Views.{History}
 use Rattle.deal_table.specs.History.{Begins}
 use Rattle.desk.specs.History.{history_of}
 use Rattle.desk.specs.Verdicts.{Decides}
+use Rattle.desk.specs.Clerks.{IsDecidedSince}
 use Rattle.desk.proofs.ClerkLemmas.{left_gains}
-use Rattle.clerk.proofs.TurnLemmas.{begins_on, decides_earlier, seen_lawful}
+use Rattle.clerk.proofs.TurnLemmas.{begins_on, decides_earlier, seen_lawful, still_lawful}
 use Rattle.clerk.proofs.shared.SharedClerkClerk.decide.Goals as goal
 
 pub returns-clause-lawful : goal.returns-clause-lawful
@@ -29,3 +30,15 @@ returns-clause-verdict g c = λ l looked first carries told.
     let now_seen : c.leave.new.seat.me.0.seen ≡ (history_of after) = ap (λ m. m.0.seen) c.leave.ensures.left ∙ ap (λ h. h.items) c.keep_mark.ensures.history in
     subst (λ (g' : History). Decides l k seen g' c.args.now w c.decide-verdict.result) (sym now_seen)
     (decides_earlier l k seen (history_of desk) (history_of after) c.args.now w c.decide-verdict.result c.enter-desk.ensures.later (c.decide-verdict.ensures.verdict l looked seen first c.enter-desk.ensures.later carries told))
+
+pub returns-clause-ends : goal.returns-clause-ends
+returns-clause-ends g c =
+    let seen = c.args.self.now.seat.me.0.seen in
+    let desk = c.enter-desk.result in
+    let after = c.decide-verdict.new.self in
+    let kept = c.keep_mark.new.desk in
+    let same : history_of kept ≡ history_of after = ap (λ h. h.items) c.keep_mark.ensures.history in
+    let now_seen : c.leave.new.seat.me.0.seen ≡ history_of after = ap (λ m. m.0.seen) c.leave.ensures.left ∙ same in
+    let lawful = still_lawful (history_of kept) (history_of after) kept.doubt after.doubt same c.keep_mark.ensures.doubt c.stands_for_its_disk.ensures.lawful in
+    subst (λ (l : History). IsDecidedSince seen l c.args.checked.now c.args.now c.args.words.now c.decide-verdict.result) (sym now_seen)
+    (record { before = history_of desk; begun = c.enter-desk.ensures.later; doubt = desk.doubt; left = after.doubt; decided = c.decide-verdict.ensures.ends; lawful = lawful })

@@ -11,6 +11,11 @@ returns-clause-grown g c =
 pub returns-clause-verdict : goal.returns-clause-verdict
 returns-clause-verdict g c = λ l looked first carries told. c.decide.ensures.verdict l looked (history_of c.args.self.now.desk.now) first (begins_self (history_of c.args.self.now.desk.now)) carries told
 
+pub returns-clause-ends : goal.returns-clause-ends
+returns-clause-ends g c =
+    let d = c.args.self.now.desk.now in
+    record { before = history_of d; begun = begins_self (history_of d); doubt = d.doubt; left = c.decide.new.self.doubt; decided = c.decide.ensures.ends; lawful = c.decide.new.self.lawful }
+
 pub returns-clause-mine : goal.returns-clause-mine
 returns-clause-mine g c =
     let s = c.args.self.now in

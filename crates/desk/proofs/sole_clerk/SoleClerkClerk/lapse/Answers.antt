@@ -1,7 +1,13 @@
 use Rattle.desk.specs.History.{history_of}
 use Rattle.desk.specs.Due.{event_time}
+use Rattle.desk.proofs.VerdictLemmas.{begins_self}
 use Rattle.desk.proofs.ClerkLemmas.{lapsed_gains, lapsed_memory}
 use Rattle.desk.proofs.sole_clerk.SoleClerkClerk.lapse.Goals as goal
+
+pub returns-clause-ends : goal.returns-clause-ends
+returns-clause-ends g c =
+    let d = c.args.self.now.desk.now in
+    record { before = history_of d; begun = begins_self (history_of d); doubt = d.doubt; left = c.lapse.new.self.doubt; lapsed = c.lapse.ensures.ends; lawful = c.lapse.new.self.lawful }
 
 pub returns-clause-mine : goal.returns-clause-mine
 returns-clause-mine g c =

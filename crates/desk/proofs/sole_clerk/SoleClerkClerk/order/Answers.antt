@@ -7,7 +7,7 @@ use Rattle.desk.proofs.sole_clerk.SoleClerkClerk.order.Goals as goal
 pub returns-clause-ends : goal.returns-clause-ends
 returns-clause-ends g c =
     let s = c.args.self.now in
-    record { before = history_of s.desk.now; begun = begins_self (history_of s.desk.now); doubt = s.desk.now.doubt; left = c.order.new.self.doubt; ordered = c.order.ensures.ends }
+    record { before = history_of s.desk.now; begun = begins_self (history_of s.desk.now); doubt = s.desk.now.doubt; left = c.order.new.self.doubt; ordered = c.order.ensures.ends; lawful = c.order.new.self.lawful }
 
 pub returns-clause-mine : goal.returns-clause-mine
 returns-clause-mine g c =
