@@ -1,5 +1,5 @@
 -- What a turn did to the history that a seat has seen, and to its marks.
-use Rattle.std.proofs.Common.{◌≡◌, ℕ, ◌≤◌, List, ◌++◌, Option, Some, None, sym, ◌∙◌, ap, subst, append_assoc}
+use Rattle.std.proofs.Common.{◌≡◌, ℕ, List, ◌++◌, Option, Some, None, sym, ◌∙◌, ap, subst, append_assoc}
 use Rattle.std.proofs.Math.Logic.{∥∥₁_map}
 use Rattle.std.specs.Prelude.{MatchOption, IfSome}
 use Rattle.deal_changes.specs.declared.change.Change.{Change}
@@ -10,7 +10,7 @@ use Rattle.deal_table.specs.History.{Begins}
 use Rattle.deal_table.specs.Message.{Letter}
 use Rattle.desk.specs.declared.verdict.Verdict.{Verdict}
 use Rattle.desk.specs.declared.verdict.Verdict.TheVariants.{Done, Again, Refused, Stale, DiskFault, NoMemory}
-use Rattle.desk.specs.Verdicts.{IsDone, Decides}
+use Rattle.desk.specs.Verdicts.{Decides}
 
 pub begins_on : (xs ys zs : History) → Begins xs ys → Begins ys zs → Begins xs zs
 begins_on xs ys zs first second = (first.0 ++ second.0, second.1 ∙ ap (λ (l : History). l ++ second.0) first.1 ∙ append_assoc xs first.0 second.0)

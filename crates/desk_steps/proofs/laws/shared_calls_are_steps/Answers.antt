@@ -4,6 +4,9 @@ use Rattle.desk_steps.proofs.laws.shared_calls_are_steps.Goals as goal
 pub returns-clause-decided : goal.returns-clause-decided
 returns-clause-decided c = shared_decided
 
+pub returns-clause-makes : goal.returns-clause-makes
+returns-clause-makes c = shared_makes
+
 pub returns-clause-lapsed : goal.returns-clause-lapsed
 returns-clause-lapsed c = shared_lapsed
 
