@@ -79,7 +79,7 @@ inner_short hashes bytes l is = subst IsShort (sym is.inside) (facts_short hashe
 subject_short : (hashes : Receipted → List ℕ) (bytes : List ℕ) (l : Letter) → IsLetter hashes bytes l → IsShort (subject_of l)
 subject_short hashes bytes l is = elim (is_nested l.message.body) as (λ v. IsShort (cond v l.inner l.message)) [ true ↦ inner_short hashes bytes l is | false ↦ message_short hashes bytes l is ]
 
-no_hash : Receipted → List ℕ
+pub no_hash : Receipted → List ℕ
 no_hash r = []
 
 echoed_short : (e : Echo) (f : Facts) → echoed e ≡ echo_of f.header → IsShort f → length e.sender.now ≤ 131072

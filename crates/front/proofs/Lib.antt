@@ -1,5 +1,6 @@
 mod Decided
 mod Letters
 mod Joins
+mod Reasons
 mod Rulings
 mod Replies

@@ -140,6 +140,15 @@ pub record AreShort (r : Request) : Type 0 where
 abbrev pub echo_in : Request → Bool → Echoed
 echo_in r outer = echoed (if outer then r.outer_echo else r.echo)
 
+-- what a message is refused for isn't a failure of the service itself
+abbrev pub HasReason : Unfit → Type 0
+HasReason (unfit.Refused fail is_guarded to_outer) = fail ≢ SystemFailure
+HasReason unfit.NoMemory = Unit {0}
+
+abbrev pub IsReasoned : Verdict → Type 0
+IsReasoned (verdict.Refused fail place time is_guarded to_outer) = fail ≢ SystemFailure
+IsReasoned _ = Unit {0}
+
 -- the answer that a device failed, at a look
 pub record IsFailed (k : Replier) (echo : Echo) (look : Look) (w : List ℕ) (reply : Reply) : Type 0 where
   pub note : reply.note ≡ record { place = look.place; time = look.time; words = w; outcome = outcome.SystemFailure }

@@ -59,6 +59,7 @@ pub(crate) fn refused<G: Gate>(
     requires sender { length echo.now.sender.now ≤ 131_072 }
     requires drawn { fail ≢ FailInfo.SystemFailure → IsSome words }
     requires guarded { IsSome guard → IsSome words }
+    requires down { IsSome words → fail ≢ FailInfo.SystemFailure }
     ensures note { IfSome result (λ r. r.note ≡ note) }
     ensures octets { IfSome result (λ r. r.octets ≡ refusal_of (replier_by keys.now).keys (echoed echo.now) fail (option_map secret_in (option_copied guard.entry)) note.time (option_copied words.entry)) }
 {

@@ -6,7 +6,7 @@ ghost use Rattle.intake.specs.Intake.{IsRequest};
 ghost use Rattle.reply_maker.specs.Keys.{are_blank};
 ghost use Rattle.front.specs.Answers.{IsOwn};
 ghost use Rattle.front.specs.Clerks.{clerked, Goes};
-ghost use Rattle.front.specs.Courses.{AreShort, IsSealable, IsFailed, IsFinished, IsTurned, IsResponse, is_stale};
+ghost use Rattle.front.specs.Courses.{AreShort, HasReason, IsReasoned, IsSealable, IsFailed, IsFinished, IsTurned, IsResponse, is_stale};
 ghost use Rattle.front.specs.Fronts.{replier_by, HasSettings, Own};
 
 use crate::asking::{look_at, nothing};
@@ -71,6 +71,7 @@ fn turned<G: Gate>(
 ) -> Option<Reply>
     requires time { look.now.time ≤ 250_000_000_000 }
     requires senders { AreShort r.now }
+    requires reason { HasReason unfit }
     ensures { IfSome result (IsTurned (replier_by keys.now) r.now look.now words.now unfit) }
 {
     let Unfit::Refused {
@@ -112,6 +113,7 @@ fn finish<G: Gate>(
     requires timely { IsInTime verdict.now }
     requires senders { AreShort r.now }
     requires settled { is_stale verdict.now ≡ false }
+    requires reason { IsReasoned verdict.now }
     ensures { IfSome result (IsFinished (replier_by keys.now) r.now checked.now look.now words.now verdict.now) }
 {
     match verdict {

@@ -170,8 +170,8 @@ pub fn refuse_as(
     guarded(alloc, name, rounds, echo, fail, guard, time, words)
 }
 
-/// Writes the authority's refusal, as `refuse_as` does, with its name and the rounds of its settings. The words are drawn for it, and
-/// only a failure of the service itself may have none, which nothing protects then. `AllocError` where memory runs out.
+/// Writes the authority's refusal, as `refuse_as` does, with its name and the rounds of its settings. Words are drawn for each but
+/// for a failure of the service itself, which has none, and which nothing protects. `AllocError` where memory runs out.
 #[tactic(auto, unfolding(crate::specs::Refusals::refusal_of))]
 pub fn refuse(
     alloc: Global,
@@ -186,6 +186,7 @@ pub fn refuse(
     requires sender { length echo.now.sender.now ≤ 131_072 }
     requires drawn { fail ≢ FailInfo.SystemFailure → IsSome words }
     requires guarded { IsSome guard → IsSome words }
+    requires down { IsSome words → fail ≢ FailInfo.SystemFailure }
     ensures { IfOk result (λ octets. octets ≡ refusal_of (brief_of keys.now.settings) (echoed echo.now) fail (option_map secret_in (option_copied guard.entry)) time (option_copied words.entry)) }
 {
     let settings = brief_of(keys.settings());
