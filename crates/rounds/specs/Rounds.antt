@@ -1,0 +1,120 @@
+-- What a round of orders and lapses is.
+use Rattle.std.specs.Prelude.{◌≡◌, ℕ, ◌+◌, ◌-◌, ◌^◌, ◌≤◌, min, nat_le, ◌&&◌, Bool, List, [], ◌∷◌, ◌++◌, length, map, Option, Some, None, IfSome, if◌then◌else◌}
+use Rattle.std.specs.List.{AllByRecursion, slice_get}
+use Rattle.cmp_ports.specs.Coming.{GivesAll}
+use Rattle.cmp_ports.specs.declared.order.Order.{Order}
+use Rattle.deal_model.specs.Views.{History}
+use Rattle.rounds.specs.declared.round.Stop.{Stop}
+use Rattle.rounds.specs.declared.round.Stop.TheVariants.{ReadFault, DiskFault, NoMemory}
+use Rattle.rounds.specs.declared.round.Round.{Round}
+use Rattle.rounds.specs.Deeds.{Deed, AreDeeds, reading_of, orders_in, place_in, places_in, obeyed, unheeded, IsCaughtUp}
+
+-- ---- counts
+
+-- the last value of a count, at which it stays
+abbrev pub last_count : ℕ
+last_count = 2 ^ 64 - 1
+
+abbrev pub none_yet : Round
+none_yet = record { done = 0; refused = 0; stop = None }
+
+-- both counts have room for both rounds
+abbrev pub has_room : Round → Round → Bool
+has_room a b = nat_le (a.done + b.done) last_count && nat_le (a.refused + b.refused) last_count
+
+-- how the second of two rounds ends both; counts that are past their last value are want of memory
+abbrev pub stop_after : Option Stop → Bool → Option Stop
+stop_after (Some stop) room = Some stop
+stop_after None room = if room then None else Some NoMemory
+
+-- two rounds, one after the other
+abbrev pub both : Round → Round → Round
+both a b = record { done = min (a.done + b.done) last_count; refused = min (a.refused + b.refused) last_count; stop = stop_after b.stop (has_room a b) }
+
+-- the count of a round
+abbrev pub Counts : ℕ → ℕ → Type 0
+Counts count n = count ≡ min n last_count
+
+-- ---- what a round took, read and did
+
+-- the calls took these, one after the other
+abbrev pub TakesAll : {X : Type 0} → Option (List X) → Option (List X) → List X → Type 0
+TakesAll None new xs = Unit {0}
+TakesAll (Some old) None xs = ⊥
+TakesAll (Some old) (Some new) xs = old ≡ xs ++ new
+
+-- it is one of these
+abbrev pub IsAmong : {X : Type 0} → List X → X → Type 0
+IsAmong xs x = (n : ℕ) × (slice_get xs n ≡ Some x)
+
+-- the order that was taken last and had no deed: only where the disk failed or memory ran out
+abbrev pub lone : Option Order → List Order
+lone None = []
+lone (Some order) = order ∷ []
+
+abbrev pub MayLose : Option Stop → Option Order → Type 0
+MayLose stop None = Unit {0}
+MayLose None (Some order) = ⊥
+MayLose (Some ReadFault) (Some order) = ⊥
+MayLose (Some DiskFault) (Some order) = Unit {0}
+MayLose (Some NoMemory) (Some order) = Unit {0}
+
+-- What was done accounts for a round: for the history h that it made of h0, the orders that it took, the readings of its clock, the
+-- places of its own changes, and what it tells. It does so whether the round stopped or not.
+pub record Accounts (h0 h : History) (taken : List Order) (readings places : List ℕ) (round : Round) : Type 0 where
+  pub deeds : List Deed
+  pub done : AreDeeds h (length h0) deeds
+  pub made : places ≡ places_in deeds
+  pub lost : Option Order
+  pub orders : taken ≡ orders_in deeds ++ lone lost
+  pub stopped : MayLose round.stop lost
+  pub among : AllByRecursion (λ d. IsAmong readings (reading_of d)) deeds
+  pub obeys : Counts round.done (obeyed deeds)
+  pub refuses : Counts round.refused (unheeded deeds)
+  pub exact : round.stop ≡ None → (obeyed deeds ≤ last_count) × (unheeded deeds ≤ last_count)
+
+-- what is told of a clerk, of the orders and of a clock at a moment: the history that the clerk has seen, the places of its own
+-- changes, the orders that are left and the readings to come
+pub record Sight : Type 0 where
+  pub seen : History
+  pub mine : List ℕ
+  pub left : Option (List Order)
+  pub coming : Option (ℕ → ℕ)
+
+-- A round: what it did accounts for the orders that it took, the readings that its clock gave and the places that its clerk gained.
+pub record IsRound (old new : Sight) (round : Round) : Type 0 where
+  pub taken : List Order
+  pub takes : TakesAll old.left new.left taken
+  pub readings : List ℕ
+  pub reads : GivesAll old.coming new.coming readings
+  pub places : List ℕ
+  pub gained : new.mine ≡ old.mine ++ places
+  pub accounts : Accounts old.seen new.seen taken readings places round
+
+-- ---- the single rounds
+
+-- a round of orders: no certificate lapses, and the clock is read once an order
+pub record IsOrderRound (old new : Sight) (round : Round) : Type 0 where
+  pub whole : IsRound old new round
+  pub alone : length (orders_in whole.accounts.deeds) ≡ length whole.accounts.deeds
+  pub more : List ℕ
+  pub each : whole.readings ≡ map reading_of whole.accounts.deeds ++ more
+  pub once : length whole.readings ≡ length whole.taken
+  -- where it didn't stop, no order is left
+  pub none : round.stop ≡ None → IfSome new.left (λ left. left ≡ [])
+
+-- a round of lapses: the clock is read once a call, of which the last one lapsed none
+pub record IsLapseRound (old new : Sight) (round : Round) : Type 0 where
+  pub whole : IsRound old new round
+  pub alone : whole.taken ≡ []
+  pub last : ℕ
+  pub each : whole.readings ≡ map reading_of whole.accounts.deeds ++ last ∷ []
+  -- where it didn't stop, all that was due has lapsed
+  pub due : round.stop ≡ None → IsCaughtUp new.seen last
+
+-- a round of lapses by one reading, over the history h0 that becomes h
+pub record IsLapsing (h0 h : History) (now : ℕ) (before after : List ℕ) (round : Round) : Type 0 where
+  pub places : List ℕ
+  pub gained : after ≡ before ++ places
+  pub accounts : Accounts h0 h [] (now ∷ []) places round
+  pub due : round.stop ≡ None → IsCaughtUp h now
