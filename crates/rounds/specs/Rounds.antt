@@ -4,6 +4,10 @@ use Rattle.std.specs.List.{AllByRecursion, slice_get}
 use Rattle.cmp_ports.specs.Coming.{GivesAll}
 use Rattle.cmp_ports.specs.declared.order.Order.{Order}
 use Rattle.deal_model.specs.Views.{History}
+use Rattle.desk.specs.declared.answers.Lapsed.{Lapsed}
+use Rattle.desk.specs.declared.answers.Lapsed.TheVariants as lapsed
+use Rattle.desk.specs.declared.answers.Ordered.{Ordered}
+use Rattle.desk.specs.declared.answers.Ordered.TheVariants as ordered
 use Rattle.rounds.specs.declared.round.Stop.{Stop}
 use Rattle.rounds.specs.declared.round.Stop.TheVariants.{ReadFault, DiskFault, NoMemory}
 use Rattle.rounds.specs.declared.round.Round.{Round}
@@ -17,6 +21,10 @@ last_count = 2 ^ 64 - 1
 
 abbrev pub none_yet : Round
 none_yet = record { done = 0; refused = 0; stop = None }
+
+-- a round that stopped before it did anything
+abbrev pub stopped : Stop → Round
+stopped stop = record { done = 0; refused = 0; stop = Some stop }
 
 -- both counts have room for both rounds
 abbrev pub has_room : Round → Round → Bool
@@ -43,6 +51,11 @@ TakesAll None new xs = Unit {0}
 TakesAll (Some old) None xs = ⊥
 TakesAll (Some old) (Some new) xs = old ≡ xs ++ new
 
+-- where they are told, none of these is left
+abbrev pub IsUsedUp : {X : Type 0} → Option (List X) → Option (List X) → Type 0
+IsUsedUp None new = Unit {0}
+IsUsedUp (Some old) new = new ≡ Some []
+
 -- it is one of these
 abbrev pub IsAmong : {X : Type 0} → List X → X → Type 0
 IsAmong xs x = (n : ℕ) × (slice_get xs n ≡ Some x)
@@ -52,12 +65,12 @@ abbrev pub lone : Option Order → List Order
 lone None = []
 lone (Some order) = order ∷ []
 
-abbrev pub MayLose : Option Stop → Option Order → Type 0
-MayLose stop None = Unit {0}
-MayLose None (Some order) = ⊥
-MayLose (Some ReadFault) (Some order) = ⊥
-MayLose (Some DiskFault) (Some order) = Unit {0}
-MayLose (Some NoMemory) (Some order) = Unit {0}
+abbrev pub MayLose : Option Order → Option Stop → Type 0
+MayLose None stop = Unit {0}
+MayLose (Some order) None = ⊥
+MayLose (Some order) (Some ReadFault) = ⊥
+MayLose (Some order) (Some DiskFault) = Unit {0}
+MayLose (Some order) (Some NoMemory) = Unit {0}
 
 -- What was done accounts for a round: for the history h that it made of h0, the orders that it took, the readings of its clock, the
 -- places of its own changes, and what it tells. It does so whether the round stopped or not.
@@ -67,7 +80,7 @@ pub record Accounts (h0 h : History) (taken : List Order) (readings places : Lis
   pub made : places ≡ places_in deeds
   pub lost : Option Order
   pub orders : taken ≡ orders_in deeds ++ lone lost
-  pub stopped : MayLose round.stop lost
+  pub loses : MayLose lost round.stop
   pub among : AllByRecursion (λ d. IsAmong readings (reading_of d)) deeds
   pub obeys : Counts round.done (obeyed deeds)
   pub refuses : Counts round.refused (unheeded deeds)
@@ -93,15 +106,28 @@ pub record IsRound (old new : Sight) (round : Round) : Type 0 where
 
 -- ---- the single rounds
 
+-- the round of one order, and how a call for a lapse ends a round, where it does
+abbrev pub order_round : Ordered → Round
+order_round (ordered.Done place) = record { done = 1; refused = 0; stop = None }
+order_round ordered.NotHeld = record { done = 0; refused = 1; stop = None }
+order_round ordered.Full = record { done = 0; refused = 1; stop = None }
+order_round ordered.DiskFault = stopped DiskFault
+order_round ordered.NoMemory = stopped NoMemory
+
+abbrev pub lapse_round : Lapsed → Option Round
+lapse_round (lapsed.Done place tid) = None
+lapse_round lapsed.Nothing = Some none_yet
+lapse_round lapsed.Full = Some none_yet
+lapse_round lapsed.DiskFault = Some (stopped DiskFault)
+lapse_round lapsed.NoMemory = Some (stopped NoMemory)
+
 -- a round of orders: no certificate lapses, and the clock is read once an order
 pub record IsOrderRound (old new : Sight) (round : Round) : Type 0 where
   pub whole : IsRound old new round
   pub alone : length (orders_in whole.accounts.deeds) ≡ length whole.accounts.deeds
   pub more : List ℕ
   pub each : whole.readings ≡ map reading_of whole.accounts.deeds ++ more
-  pub once : length whole.readings ≡ length whole.taken
-  -- where it didn't stop, no order is left
-  pub none : round.stop ≡ None → IfSome new.left (λ left. left ≡ [])
+  pub once : length more ≡ length (lone whole.accounts.lost)
 
 -- a round of lapses: the clock is read once a call, of which the last one lapsed none
 pub record IsLapseRound (old new : Sight) (round : Round) : Type 0 where

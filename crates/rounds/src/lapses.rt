@@ -2,12 +2,24 @@
 ghost use Rattle.std.specs.Prelude.{◌≡◌, ◌≢◌, ◌≤◌, List, Option, Some};
 ghost use Rattle.cmp_ports.specs.Faults.{Rose};
 ghost use Rattle.cmp_ports.specs.declared.order.Order.{Order};
-ghost use Rattle.rounds.specs.Rounds.{IsLapseRound, IsLapsing};
+ghost use Rattle.rounds.specs.Rounds.{IsLapseRound, IsLapsing, lapse_round};
 ghost use Rattle.rounds.specs.Stays.{Stays};
 
 use crate::round::{Round, Stop};
 use cmp_ports::Clock;
-use desk::Clerk;
+use desk::{Clerk, Lapsed};
+
+/// How a call that ended so ends the round; none where the next one follows.
+fn end_of(lapsed: Lapsed) -> Option<Round>
+    ensures { result ≡ lapse_round lapsed }
+{
+    match lapsed {
+        Lapsed::Done { .. } => None,
+        Lapsed::Nothing | Lapsed::Full => Some(Round::none()),
+        Lapsed::DiskFault => Some(Round::stopped(Stop::DiskFault)),
+        Lapsed::NoMemory => Some(Round::stopped(Stop::NoMemory)),
+    }
+}
 
 /// Takes back certificates as long as a deadline has come. The clock is read once a call of the clerk.
 pub fn lapse_due<K: Clerk, C: Clock>(clerk: &mut K, clock: &mut C) -> Round
@@ -19,7 +31,13 @@ pub fn lapse_due<K: Clerk, C: Clock>(clerk: &mut K, clock: &mut C) -> Round
     ensures disk_fault { result.stop ≡ Some Stop.DiskFault → Rose (K.faults clerk.old) (K.faults clerk.new) }
     ensures disk { result.stop ≢ Some Stop.DiskFault → K.faults clerk.new ≡ K.faults clerk.old }
 {
-    Round::none()
+    loop {
+        let now = clock.now();
+        let lapsed = clerk.lapse(now);
+        if let Some(round) = end_of(lapsed) {
+            return round;
+        }
+    }
 }
 
 /// Takes back the certificates whose deadline has come at this time, in seconds since 1970.
@@ -31,5 +49,10 @@ pub fn lapse_all<K: Clerk>(clerk: &mut K, now: u64) -> Round
     ensures disk_fault { result.stop ≡ Some Stop.DiskFault → Rose (K.faults clerk.old) (K.faults clerk.new) }
     ensures disk { result.stop ≢ Some Stop.DiskFault → K.faults clerk.new ≡ K.faults clerk.old }
 {
-    Round::none()
+    loop {
+        let lapsed = clerk.lapse(now);
+        if let Some(round) = end_of(lapsed) {
+            return round;
+        }
+    }
 }

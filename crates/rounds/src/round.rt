@@ -24,7 +24,7 @@ pub struct Round {
 }
 
 impl Round {
-    ghost use Rattle.rounds.specs.Rounds.{none_yet, both, has_room};
+    ghost use Rattle.rounds.specs.Rounds.{none_yet, stopped, both, has_room};
 
     /// The round in which nothing was done.
     pub fn none() -> Round
@@ -34,6 +34,17 @@ impl Round {
             done: 0,
             refused: 0,
             stop: None,
+        }
+    }
+
+    /// The round that stopped before anything was done.
+    pub fn stopped(stop: Stop) -> Round
+        ensures { result ≡ stopped stop }
+    {
+        Round {
+            done: 0,
+            refused: 0,
+            stop: Some(stop),
         }
     }
 

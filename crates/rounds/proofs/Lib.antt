@@ -1,0 +1,4 @@
+pub mod Lists
+pub mod DeedLemmas
+pub mod RoundLemmas
+pub mod StepLemmas
