@@ -1,8 +1,7 @@
 -- What was done stays done in each later history, and follows what was done before.
-use Rattle.std.proofs.Common.{◌≡◌, ℕ, ◌+◌, ◌<◌, ◌≤◌, List, [], ◌∷◌, ◌++◌, length, take, arith, refl, ◌∙◌, sym, subst, length-append}
+use Rattle.std.proofs.Common.{ℕ, ◌<◌, ◌≤◌, List, [], ◌∷◌, ◌++◌, length, arith, ◌∙◌, sym, subst, length-append}
 use Rattle.std.proofs.lemmas.List.{take-append-le}
 use Rattle.std.proofs.lemmas.Option.{slice_get_within}
-use Rattle.cmp_ports.specs.declared.order.Order.{Order}
 use Rattle.deal_changes.specs.declared.change.Change.{Change}
 use Rattle.deal_model.specs.Views.{History}
 use Rattle.deal_table.specs.History.{Begins}

@@ -1,10 +1,8 @@
 -- Two rounds, one after the other.
-use Rattle.std.proofs.Common.{◌≡◌, ℕ, ◌+◌, ◌-◌, ◌<◌, ◌≤◌, ◌^◌, min, Bool, true, false, List, [], ◌∷◌, ◌++◌, length, map, Option, Some, None, arith, refl, ◌∙◌, ap, sym, subst, length-append, append-nil, append_assoc}
+use Rattle.std.proofs.Common.{◌≡◌, ℕ, ◌+◌, ◌≤◌, min, Bool, true, false, List, [], ◌++◌, length, Option, Some, None, arith, refl, ◌∙◌, ap, sym, subst, length-append, append-nil, append_assoc}
 use Rattle.std.specs.Prelude.{nat_le, ◌&&◌}
-use Rattle.std.specs.List.{AllByRecursion, slice_get, count_by}
-use Rattle.std.proofs.lemmas.Bool.{leb-true, le-leb}
+use Rattle.std.proofs.lemmas.Bool.{leb-true}
 use Rattle.std.proofs.lemmas.Grind.{flat_map-append}
-use Rattle.std.proofs.lemmas.List.{map-append}
 use Rattle.std.proofs.lemmas.List.Sums.{sum_by-append}
 use Rattle.cmp_ports.specs.declared.order.Order.{Order}
 use Rattle.cmp_ports.proofs.CountLemmas.{gives_none, gives_both}
@@ -12,9 +10,8 @@ use Rattle.deal_model.specs.Views.{History}
 use Rattle.deal_table.specs.History.{Begins}
 use Rattle.rounds.specs.declared.round.Round.{Round}
 use Rattle.rounds.specs.declared.round.Stop.{Stop}
-use Rattle.rounds.specs.declared.round.Stop.TheVariants.{ReadFault, DiskFault, NoMemory}
-use Rattle.rounds.specs.Deeds.{Deed, AreDeeds, reading_of, order_in, orders_in, place_in, places_in, is_obeyed, is_unheeded, obeyed, unheeded}
-use Rattle.rounds.specs.Rounds.{last_count, none_yet, stopped, has_room, stop_after, both, Counts, TakesAll, IsAmong, lone, MayLose, Accounts, Sight, IsRound, IsOrderRound}
+use Rattle.rounds.specs.Deeds.{Deed, reading_of, order_in, orders_in, place_in, places_in, obeyed, unheeded}
+use Rattle.rounds.specs.Rounds.{last_count, none_yet, has_room, stop_after, both, TakesAll, IsAmong, lone, MayLose, Accounts, Sight, IsRound}
 use Rattle.rounds.proofs.Lists.{get_front, get_back, all_append, all_weaker}
 use Rattle.rounds.proofs.DeedLemmas.{deeds_joined}
 use Rattle.std.proofs.lemmas.Option.{slice_get_within}

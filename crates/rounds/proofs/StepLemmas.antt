@@ -1,7 +1,7 @@
 -- What one order or one call for a lapse adds to a round.
-use Rattle.std.proofs.Common.{◌≡◌, ℕ, zero, suc, ◌+◌, ◌-◌, ◌<◌, ◌≤◌, Bool, true, false, List, [], ◌∷◌, ◌++◌, length, take, map, Option, Some, None, Ok, Err, Result, arith, refl, ◌∙◌, ap, sym, subst, inl, inr, length-append, append-nil, append_assoc}
-use Rattle.std.specs.Prelude.{IsTrue, IfSome, is_some}
-use Rattle.std.specs.List.{AllByRecursion, slice_get}
+use Rattle.std.proofs.Common.{◌≡◌, ℕ, ◌+◌, ◌-◌, ◌<◌, ◌≤◌, false, List, [], ◌∷◌, ◌++◌, length, take, map, Option, Some, None, Ok, Err, arith, refl, ◌∙◌, ap, sym, subst, inl, inr, length-append, append-nil, append_assoc}
+use Rattle.std.specs.Prelude.{is_some}
+use Rattle.std.specs.List.{AllByRecursion}
 use Rattle.std.proofs.lemmas.Grind.{flat_map-append}
 use Rattle.std.proofs.lemmas.List.{map-append, take-append-le}
 use Rattle.cmp_ports.specs.Coming.{Gives, GivesAll, Takes}
@@ -10,26 +10,25 @@ use Rattle.cmp_ports.proofs.CountLemmas.{gives_one, gives_none, gives_both}
 use Rattle.deal_changes.specs.declared.change.Change.{Change}
 use Rattle.deal_changes.specs.declared.change.Change.TheVariants.{Lapse}
 use Rattle.deal_model.specs.Views.{History}
-use Rattle.deal_model.specs.Rules.{Allowed}
 use Rattle.deal_table.specs.History.{Begins}
 use Rattle.desk.specs.declared.answers.Lapsed.{Lapsed}
 use Rattle.desk.specs.declared.answers.Lapsed.TheVariants as lapsed
 use Rattle.desk.specs.declared.answers.Ordered.{Ordered}
 use Rattle.desk.specs.declared.answers.Ordered.TheVariants as ordered
-use Rattle.desk.specs.Due.{event_time, IsDue, IsLapse}
-use Rattle.desk.specs.Calls.{Awaits, IsOrder, IsLapsed, IsOrdered, is_full}
+use Rattle.desk.specs.Due.{event_time, IsLapse}
+use Rattle.desk.specs.Calls.{IsLapsed}
 use Rattle.desk.specs.Clerks.{lapsed_place, ordered_place, IsLapsedSince, IsOrderedSince}
 use Rattle.rounds.specs.declared.round.Round.{Round}
 use Rattle.rounds.specs.declared.round.Stop.{Stop}
-use Rattle.rounds.specs.declared.round.Stop.TheVariants.{ReadFault, DiskFault, NoMemory}
+use Rattle.rounds.specs.declared.round.Stop.TheVariants.{DiskFault, NoMemory}
 use Rattle.rounds.specs.Deeds as deeds
 use Rattle.rounds.specs.Deeds.{Deed, before_of, after_of, reading_of, order_in, orders_in, place_in, places_in, obeyed, unheeded, IsMade, IsVain, Obeys, IsDeed, AreDeeds, IsCaughtUp}
 use Rattle.desk.specs.declared.clerk.Clerk.{Ghosts}
 use Rattle.rounds.specs.Stays.{Stays}
-use Rattle.rounds.specs.Rounds.{none_yet, stopped, both, order_round, lapse_round, TakesAll, IsUsedUp, IsAmong, lone, MayLose, Accounts, Sight, IsRound, IsOrderRound, IsLapseRound, IsLapsing}
+use Rattle.rounds.specs.Rounds.{stopped, both, order_round, lapse_round, TakesAll, IsUsedUp, IsAmong, lone, MayLose, Accounts, Sight, IsOrderRound, IsLapseRound, IsLapsing}
 use Rattle.rounds.proofs.Lists.{get_seam, all_append, all_weaker}
-use Rattle.rounds.proofs.DeedLemmas.{deeds_later, deeds_joined, floor_within}
-use Rattle.rounds.proofs.RoundLemmas.{takes_none, takes_both, loses_none, begins_both, begins_itself, begins_longer, accounts_none, nothing_done, round_follows}
+use Rattle.rounds.proofs.DeedLemmas.{deeds_later, deeds_joined}
+use Rattle.rounds.proofs.RoundLemmas.{takes_none, takes_both, loses_none, begins_both, begins_itself, begins_longer, nothing_done, round_follows}
 
 -- ---- one change
 

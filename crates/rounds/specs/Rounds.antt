@@ -1,5 +1,5 @@
 -- What a round of orders and lapses is.
-use Rattle.std.specs.Prelude.{◌≡◌, ℕ, ◌+◌, ◌-◌, ◌^◌, ◌≤◌, min, nat_le, ◌&&◌, Bool, List, [], ◌∷◌, ◌++◌, length, map, Option, Some, None, IfSome, if◌then◌else◌}
+use Rattle.std.specs.Prelude.{◌≡◌, ℕ, ◌+◌, ◌-◌, ◌^◌, ◌≤◌, min, nat_le, ◌&&◌, Bool, List, [], ◌∷◌, ◌++◌, length, map, Option, Some, None, if◌then◌else◌}
 use Rattle.std.specs.List.{AllByRecursion, slice_get}
 use Rattle.cmp_ports.specs.Coming.{GivesAll}
 use Rattle.cmp_ports.specs.declared.order.Order.{Order}
@@ -11,7 +11,7 @@ use Rattle.desk.specs.declared.answers.Ordered.TheVariants as ordered
 use Rattle.rounds.specs.declared.round.Stop.{Stop}
 use Rattle.rounds.specs.declared.round.Stop.TheVariants.{ReadFault, DiskFault, NoMemory}
 use Rattle.rounds.specs.declared.round.Round.{Round}
-use Rattle.rounds.specs.Deeds.{Deed, AreDeeds, reading_of, orders_in, place_in, places_in, obeyed, unheeded, IsCaughtUp}
+use Rattle.rounds.specs.Deeds.{Deed, AreDeeds, reading_of, orders_in, places_in, obeyed, unheeded, IsCaughtUp}
 
 -- ---- counts
 

@@ -1,5 +1,5 @@
 -- What no round changes of a clerk, and what its clerk may say of its history.
-use Rattle.std.specs.Prelude.{◌≡◌, ℕ, ◌+◌, ◌≤◌, length, None, IfSome}
+use Rattle.std.specs.Prelude.{◌≡◌, ◌+◌, ◌≤◌, length, None, IfSome}
 use Rattle.deal_model.specs.Rules.{Allowed, Legal}
 use Rattle.deal_table.specs.History.{Begins}
 use Rattle.desk.specs.declared.clerk.Clerk.{Ghosts}

@@ -1,4 +1,4 @@
-use Rattle.std.proofs.Common.{◌≡◌, ◌∙◌, None, Some, sym}
+use Rattle.std.proofs.Common.{◌≡◌, ◌∙◌, None, sym}
 use Rattle.rounds.specs.Rounds.{lapse_round}
 use Rattle.rounds.specs.Stays.{Stays}
 use Rattle.rounds.proofs.StepLemmas.{due_more, due_over, lapse_shrinks, lapsed_alone, no_fault, stays_both}

@@ -1,4 +1,4 @@
-use Rattle.std.proofs.Common.{◌≡◌, ◌∙◌, true, ℕ, List, Option, Some, None, Result, Ok, Err, refl, ap, sym, subst}
+use Rattle.std.proofs.Common.{◌≡◌, ◌∙◌, true, Option, None, Ok, refl, ap, sym, subst}
 use Rattle.cmp_ports.specs.declared.order.Order.{Order}
 use Rattle.cmp_ports.specs.declared.faults.Failed.{Failed}
 use Rattle.cmp_ports.specs.Coming.{Takes}
