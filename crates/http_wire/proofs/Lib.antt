@@ -1,0 +1,7 @@
+mod ExchangeLemmas
+mod FrameLemmas
+mod ListLemmas
+mod Opens
+mod ServeLemmas
+mod StepLemmas
+mod StreamLemmas
