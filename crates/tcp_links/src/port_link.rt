@@ -42,7 +42,9 @@ fn dial<R: Net<Stream = TcpStream>>(net: &R, port: u16) -> io::Result<TcpStream>
 impl<R: Net<Stream = TcpStream> + Drop> PortLink<R> {
     /// The port of 127.0.0.1, to which nothing connected yet.
     pub fn new(net: R, port: u16) -> PortLink<R>
-        ensures { result.tally.count ≡ 0 }
+        ensures net { result.net ≡ net }
+        ensures port { result.port ≡ port }
+        ensures faults { result.tally.count ≡ 0 }
     {
         PortLink {
             net,

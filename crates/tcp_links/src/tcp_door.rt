@@ -53,6 +53,7 @@ fn next_of(listener: &TcpListener) -> io::Result<TcpLink>
 impl TcpDoor {
     /// A door of this listener, at which nobody came yet.
     pub fn new(listener: Option<Arc<TcpListener>>) -> TcpDoor
+        ensures listener { result.listener ≡ listener }
         ensures accepted { result.accepted ≡ 0 }
         ensures ended { result.ended ≡ 0 }
         ensures faults { result.tally.count ≡ 0 }
@@ -104,6 +105,7 @@ impl Door for TcpDoor {
         ensures cause { HasCause self.old.tally.count self.new.tally.count result }
         ensures once { CountedOnce self.old.tally.count self.new.tally.count result }
         ensures bare { self.old.listener ≡ None → IsErr result }
+        ensures listener { self.new.listener ≡ self.old.listener }
     {
         let answer = self.next();
         let link = self.tally.note(answer)?;
