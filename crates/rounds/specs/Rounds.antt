@@ -144,3 +144,26 @@ pub record IsLapsing (h0 h : History) (now : ℕ) (before after : List ℕ) (rou
   pub gained : after ≡ before ++ places
   pub accounts : Accounts h0 h [] (now ∷ []) places round
   pub due : round.stop ≡ None → IsCaughtUp h now
+
+-- A round of lapses, and then of orders: the clock is read once a deed, once for an order without a deed, and once for the call that
+-- lapsed none.
+pub record IsMixedRound (old new : Sight) (round : Round) : Type 0 where
+  pub whole : IsRound old new round
+  pub once : length whole.readings ≡ length whole.accounts.deeds + length (lone whole.accounts.lost) + 1
+
+-- one reading, at which all that was due has lapsed
+abbrev pub IsSomeLast : History → List ℕ → Type 0
+IsSomeLast h [] = ⊥
+IsSomeLast h (now ∷ []) = IsCaughtUp h now
+IsSomeLast h (now ∷ next ∷ readings) = ⊥
+
+-- The last round: orders, and then lapses by one reading. Where it didn't stop, that is the last one, and all that was due at it has
+-- lapsed.
+pub record IsLastRound (old new : Sight) (round : Round) : Type 0 where
+  pub whole : IsRound old new round
+  pub earlier : List ℕ
+  pub last : List ℕ
+  pub reads_last : whole.readings ≡ earlier ++ last
+  -- the others are one an order
+  pub once : length earlier ≡ length whole.taken
+  pub due : round.stop ≡ None → IsSomeLast new.seen last
