@@ -1,0 +1,3 @@
+pub mod DoorLemmas
+pub mod StationLemmas
+pub mod UpkeepLemmas
