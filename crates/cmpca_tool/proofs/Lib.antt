@@ -3,11 +3,11 @@ pub mod MacLemmas
 pub mod CauseLemmas
 pub mod ShowLemmas
 mod FileLemmas
-mod ChangeLemmas
+pub mod ChangeLemmas
 mod StepLemmas
 mod EnlistLemmas
 mod FoundLemmas
 mod InitLemmas
 mod InitReplyLemmas
-mod TakeLemmas
+pub mod TakeLemmas
 mod AnswerLemmas

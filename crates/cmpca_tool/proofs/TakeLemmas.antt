@@ -112,14 +112,14 @@ no_fault : keys.NoMemory ≡ keys.ReadFault → ⊥
 no_fault e = cc e
 
 -- why no keys were loaded, or want of memory
-given_told : (file : List ℕ) (s : Settings) (fault told : KeyFault) → Gives file s (Err fault) → (told ≡ fault) ⊎ (told ≡ keys.NoMemory) → Gives file s (Err told)
+pub given_told : (file : List ℕ) (s : Settings) (fault told : KeyFault) → Gives file s (Err fault) → (told ≡ fault) ⊎ (told ≡ keys.NoMemory) → Gives file s (Err told)
 given_told file s fault told given is = ⊎_elim
     (λ same. subst (λ (f : KeyFault). Gives file s (Err f)) (sym same) given)
     (λ none. subst (λ (f : KeyFault). Gives file s (Err f)) (sym none) tt)
     is
 
 -- the reply tells the fault; want of memory is no fault of reading
-told_failed : (Failed : Type 0) (fault told : KeyFault) → (fault ≡ keys.ReadFault → Failed) → (told ≡ fault) ⊎ (told ≡ keys.NoMemory) → told ≡ keys.ReadFault → Failed
+pub told_failed : (Failed : Type 0) (fault told : KeyFault) → (fault ≡ keys.ReadFault → Failed) → (told ≡ fault) ⊎ (told ≡ keys.NoMemory) → told ≡ keys.ReadFault → Failed
 told_failed Failed fault told failed is e = ⊎_elim (λ same. failed (sym same ∙ e)) (λ none. absurd (no_fault (sym none ∙ e))) is
 
 pub keyless : (devices : Devices) (file : List ℕ) (s : Settings) (h : History) (fault : KeyFault) (status : Status) (text : List ℕ) → (fault ≡ keys.ReadFault → devices.key.failed) → devices.input.unread
@@ -177,14 +177,14 @@ untaken_key devices left s h untaken.NoMemory same faults is = record {
 
 module _ {D R : Type 0} (now : R → D) (content : D → Option (List ℕ)) (images : D → List ℕ → Type 0) (moment : D → ℕ) (left_since : D → ℕ → List ℕ → Type 0) (honest : (d : D) (f : List ℕ) → content d ≡ Some f → images d f) where
   -- the disk is as the mount left it
-  unchanged_by : (old mid new : R) (last : D) → now new ≡ last → mid ≡ new → content (now mid) ≡ content (now old) → Among (images (now old)) (images (now mid))
+  pub unchanged_by : (old mid new : R) (last : D) → now new ≡ last → mid ≡ new → content (now mid) ≡ content (now old) → Among (images (now old)) (images (now mid))
       → LeavesOnly (λ r. moment (now r)) (λ r t. left_since (now r) t) old mid (images (now old)) → IsUnchanged (run_of content images moment left_since (now old) last)
   unchanged_by old mid new last back stays same crash moments =
       subst (λ (d : D). IsUnchanged (run_of content images moment left_since (now old) d)) (ap now stays ∙ back)
       (record { content = same; crash = crash; moments = lent now content images moment left_since honest old mid (images (now old)) moments })
 
   -- where nothing is in doubt, each image recovers to the history
-  only_history : (images : List ℕ → Type 0) (h : History) (d : Option Change) → d ≡ None → Images images h d → Every images (λ f. Recovers f h)
+  pub only_history : (images : List ℕ → Type 0) (h : History) (d : Option Change) → d ≡ None → Images images h d → Every images (λ f. Recovers f h)
   only_history images h d clear stand image is = ⊎_elim (λ was. was) (λ more. absurd (cc (clear, more.1))) (stand image is)
 
   -- no message was answered

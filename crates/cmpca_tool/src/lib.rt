@@ -16,6 +16,8 @@ mod tool;
 mod verdict;
 mod words;
 
-pub use ending::no_memory;
+pub use ending::{disk_of, finish, no_memory};
+pub use reply::{Reply, Text, unmounted};
 pub use status::{Identity, Status};
+pub use take::{keyless_reply, settings_at};
 pub use tool::run_tool;

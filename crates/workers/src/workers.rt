@@ -9,6 +9,7 @@ use std::sync::atomic::AtomicU64;
 use turnstile::Turnstile;
 
 /// What all workers share: the desk behind its turnstile, the keys of the replies, and how many streams each serves.
+#[derive(Drop)]
 pub struct Workers<'a, D: Disk + Drop, R> {
     pub(crate) alloc: Global,
     pub(crate) rt: &'a R,
