@@ -1,0 +1,5 @@
+pub mod AskedLemmas
+pub mod NoteLemmas
+pub mod GrowLemmas
+pub mod FindLemmas
+pub mod CountLemmas
