@@ -1,0 +1,2 @@
+mod HolderLemmas
+mod MessageLemmas
