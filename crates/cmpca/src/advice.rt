@@ -5,7 +5,7 @@ use std::io;
 
 /// The words, where they are of no form.
 const WORDS: &str =
-    "SECRET is hex, 8 to 64 octets; COMMAND is init, take, show, enlist, dismiss mac REFERENCE, dismiss lms ID, release TID or deny TID";
+    "SECRET is hex, 8 to 64 octets; COMMAND is init, take, show, enlist, dismiss mac REFERENCE, dismiss lms ID, release TID, deny TID or serve PORT WORKERS CONNECTIONS ORDERS";
 
 /// The line of a setting at fault, before its key.
 const BAD_SETTING: &str = "refused bad setting ";
@@ -62,6 +62,14 @@ pub fn tell_why(rt: &HostRuntime, name: &str, why: Option<io::Error>) -> bool {
         Err(_) => eprintln!(rt; "cmpca: {name}: {error}"),
     };
     true
+}
+
+/// Tells why a port failed, where it did. Answers whether it did.
+pub fn tell_port(rt: &HostRuntime, port: u16, why: Option<io::Error>) -> bool {
+    match format!(in rt.alloc(); "port {port}") {
+        Ok(name) => tell_why(rt, name.as_str(), why),
+        Err(_) => tell_why(rt, "port", why),
+    }
 }
 
 /// Tells that words name one file for two roles.

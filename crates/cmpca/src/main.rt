@@ -1,27 +1,34 @@
 //! The certification authority's program. `cmpca verify SECRET` reads one CMP message from standard input and tells
 //! whether its PBMAC1 protection holds; `cmpca JOURNAL KEY init` founds an authority in a journal, `show` in the place of `init`
 //! tells how its history stands, and `enlist`, `dismiss`, `release` and `deny` change it by one change. `take` answers one CMP
-//! message of standard input, with the keys of the file KEY, and adds at most the change that the message makes. What is told on
-//! standard output is all that a run has to tell; lines on standard error say why a device failed, and what helps.
+//! message of standard input, with the keys of the file KEY, and adds at most the change that the message makes; `serve` answers those
+//! that come over HTTP to a port of 127.0.0.1. What is told on standard output is all that a run has to tell; lines on standard error
+//! say why a device failed, and what helps.
 #![tactic(auto)]
 
 mod advice;
 mod heard;
+mod serve;
 
 use advice::{advise, tell_one_file, tell_why, warn_of_readers};
 use cmp_ports::{
     FileDisk, FileEntropy, FileSource, Opening, StdSink, StdSource, SysClock, hold_streams,
     is_one_file, others_may_read,
 };
+use cmpca_serve::read_serve;
 use cmpca_tool::{Status, no_memory};
 use heard::Heard;
 use program_runs::run_program;
+use serve::serve;
 use std::alloc::{AllocError, Global};
+use std::net::{Net, TcpListener, TcpStream};
 use std::process::ExitCode;
+use std::sync::Wait;
+use std::thread::Threads;
 use std::{env, io};
 
 /// The file that random octets are read from.
-const ENTROPY: &str = "/dev/urandom";
+pub(crate) const ENTROPY: &str = "/dev/urandom";
 
 /// The places of the words.
 const JOURNAL: usize = 0;
@@ -29,6 +36,8 @@ const JOURNAL: usize = 0;
 const KEY: usize = 1;
 
 const COMMAND: usize = 2;
+
+const ORDERS: usize = 6;
 
 /// The words behind the program's name.
 fn words_of(rt: &HostRuntime) -> io::Result<Vec<String>> {
@@ -64,7 +73,10 @@ fn opening_of(words: &[String]) -> Opening {
 
 /// Warns where others may read the key file of a command that reads it.
 fn warn(rt: &HostRuntime, words: &[String]) {
-    if !is_at(words, COMMAND, "init") && !is_at(words, COMMAND, "take") {
+    let reads_it = is_at(words, COMMAND, "init")
+        || is_at(words, COMMAND, "take")
+        || is_at(words, COMMAND, "serve");
+    if !reads_it {
         return;
     }
     if let Some(path) = words.get(KEY) {
@@ -109,9 +121,10 @@ fn run_words(
     Ok(status)
 }
 
-/// Runs the program on the words of its command line. Words that name one file for two roles are of no form.
-fn run_checked(
+/// Runs the program on the words of its command line, by the threads and the sockets of the host where it serves. Words that name one file for two roles are of no form.
+fn run_checked<R: Net<Listener = TcpListener, Stream = TcpStream> + Threads + Wait + Sync>(
     rt: &HostRuntime,
+    host: &R,
     words: &[String],
     out: &mut Heard<StdSink>,
 ) -> Result<Status, AllocError> {
@@ -122,14 +135,30 @@ fn run_checked(
         }
     }
     warn(rt, words);
-    run_words(rt, words, out)
+    let alloc = rt.alloc();
+    match read_serve(words) {
+        Some(plan) => serve(
+            rt,
+            host,
+            words,
+            &plan,
+            path_at(alloc, words, JOURNAL)?,
+            path_at(alloc, words, KEY)?,
+            path_at(alloc, words, ORDERS)?,
+            out,
+        ),
+        None => run_words(rt, words, out),
+    }
 }
 
 /// Runs the program on its words.
-fn run(rt: &HostRuntime) -> Status {
+fn run<R: Net<Listener = TcpListener, Stream = TcpStream> + Threads + Wait + Sync>(
+    rt: &HostRuntime,
+    host: &R,
+) -> Status {
     let mut out = Heard::new(StdSink::new(rt.stdout()));
     let ended = match words_of(rt) {
-        Ok(words) => run_checked(rt, &words, &mut out),
+        Ok(words) => run_checked(rt, host, &words, &mut out),
         Err(error) if error.kind() == io::ErrorKind::OutOfMemory => Err(AllocError),
 
         // A word that is not text is in no form, as no words are.
@@ -146,5 +175,5 @@ fn main(rt: HostRuntime) -> ExitCode {
     if hold_streams(&rt).is_err() {
         return ExitCode::from(Status::DiskFault.number());
     }
-    ExitCode::from(run(&rt).number())
+    ExitCode::from(run(&rt, &rt).number())
 }
