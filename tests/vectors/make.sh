@@ -27,6 +27,7 @@ python3 "$here/ask_vectors.py" >"$out/asks.txt"
 python3 "$here/check_vectors.py" >"$out/checks.txt"
 python3 "$here/key_vectors.py" >"$out/keys.txt"
 python3 "$here/wish_vectors.py" >"$out/wishes.txt"
+python3 "$here/serve_vectors.py" >"$out/serves.txt"
 if command -v openssl >/dev/null; then
     "$here/openssl_certs.sh" >"$out/openssl_certs.txt"
     "$here/pkcs10.sh" >"$out/pkcs10.txt"
@@ -35,7 +36,7 @@ else
     echo "skipped: openssl_certs.txt, pkcs10.txt and key_update.txt (no openssl)"
 fi
 echo "hmac.txt, frames.txt, frame.der, changes.txt, histories.txt, rules.txt, lines.txt, journals.txt, logs.txt,"
-echo "inits.txt, near_certs.txt, neighbours.txt, asks.txt and wishes.txt are made"
+echo "inits.txt, near_certs.txt, neighbours.txt, asks.txt, wishes.txt and serves.txt are made"
 
 jars=${BCJARS:-/usr/share/java}
 path=$jars/bcprov.jar:$jars/bcutil.jar
