@@ -1,6 +1,6 @@
 #!/usr/bin/env bash
 # Builds cmpca and shows its answers: one message that verifies, one refusal of each kind, a journal, and an authority that is founded,
-# whose devices enrol, renew, wait for an order and give a certificate up.
+# whose devices enrol, renew, wait for an order and give a certificate up, over files; then it serves, and they enrol over HTTP.
 # Safe to run twice; nothing is left behind. Ends with status 1 where an answer isn't the one told.
 set -euo pipefail
 
@@ -76,7 +76,16 @@ show "A secret of 4 octets" \
 journal=$(python3 "$top/tests/vectors/journal_vectors.py" | sed -n 's/^journal //p')
 umask 077
 folder=$(mktemp -d)
-trap 'rm -rf "$folder"' EXIT
+server=
+# Ends the server where it still runs, and leaves nothing behind.
+leave() {
+    if [ -n "$server" ]; then
+        kill "$server" 2>/dev/null || true
+        wait "$server" 2>/dev/null || true
+    fi
+    rm -rf "$folder"
+}
+trap leave EXIT
 cd "$folder"
 octets "$journal" >journal
 show "A device that is enrolled" "" "changes 4
@@ -119,8 +128,8 @@ take() {
     fi
 }
 
-# A device in Python, which makes its key, checks each reply and carries the messages in files
-device() { python3 -B "$top/tests/interop/device.py" "$1" . || failed=1; }
+# A device in Python, which makes its key, checks each reply and carries the messages in files: step, folder, where its transactionIDs begin
+device() { python3 -B "$top/tests/interop/device.py" "$1" "${2:-.}" "${3:-00}" || failed=1; }
 device request
 take "The device asks for a certificate (ir), and gets one (ip)" ir.der 0 ip.der
 device confirm
@@ -175,5 +184,96 @@ reply 1 of 32
 cert 3 revoked 4 000102030405060708090a0b0c0d0e0f
 cert 4 confirmed 101112131415161718191a1b1c1d1e1f
 cert 5 confirmed 202122232425262728292a2b2c2d2e2f" 0 journal key show
+
+# From here on the same authority serves over HTTP, to five connections
+free_port() { python3 -c 'import socket; s = socket.socket(); s.bind(("127.0.0.1", 0)); print(s.getsockname()[1])'; }
+# Whether a process listens on this port of 127.0.0.1
+listens() { grep -q " 0100007F:$(printf %04X "$1") 00000000:0000 0A " /proc/net/tcp; }
+
+port=$(free_port)
+: >orders
+printf 'The authority serves five connections to a free port of 127.0.0.1, by one worker\n  $ cmpca journal key serve PORT 1 5 orders &\n'
+timeout 120 "$program" journal key serve "$port" 1 5 orders >summary 2>said &
+server=$!
+for _ in $(seq 600); do
+    if listens "$port" || ! kill -0 "$server" 2>/dev/null; then break; fi
+    sleep 0.1
+done
+if ! listens "$port"; then
+    status=0
+    wait "$server" || status=$?
+    server=
+    printf 'the server does not listen on port %s: status %s, %s %s\n' "$port" "$status" "$(cat summary)" "$(cat said)"
+    exit 1
+fi
+
+# Posts a message of a file: with curl, or with Python where there is none. Prints the status
+url=http://127.0.0.1:$port/.well-known/cmp
+http() {
+    if command -v curl >/dev/null; then
+        curl -sS --noproxy '*' -m 60 -H 'Content-Type: application/pkixcmp' -H 'Expect:' --data-binary "@$1" -o "$2" -w '%{http_code}' "$url"
+    else
+        python3 - "$port" "$1" "$2" <<'POST'
+import http.client, sys
+port, message, reply = sys.argv[1:]
+link = http.client.HTTPConnection("127.0.0.1", int(port), timeout=60)
+link.request("POST", "/.well-known/cmp", open(message, "rb").read(), {"Content-Type": "application/pkixcmp"})
+answer = link.getresponse()
+open(reply, "wb").write(answer.read())
+print(answer.status, end="")
+POST
+    fi
+}
+
+# Lets the server answer a message of a file: title, file, file of the reply.
+send() {
+    local title=$1 message=$2 reply=$3 status
+    printf '%s\n  $ curl -H "Content-Type: application/pkixcmp" --data-binary @%s -o %s http://127.0.0.1:PORT/.well-known/cmp\n' "$title" "$message" "$reply"
+    status=$(http "$message" "$reply") || status="$status, and the connection failed"
+    if [ "$status" != 200 ]; then
+        printf '  HTTP status %s, but this was told: 200; port %s, the server said: %s %s\n' "$status" "$port" "$(cat summary)" "$(cat said)"
+        exit 1
+    fi
+    printf '  %s octets\n  HTTP status %s\n' "$(wc -c <"$reply" | tr -d ' ')" "$status"
+}
+
+mkdir net
+device request net 40
+send "A device asks for a certificate over HTTP (ir), and gets one (ip)" net/ir.der net/ip.der
+device confirm net 40
+send "It accepts the certificate (certConf), and is heard (pkiconf)" net/certconf.der net/pkiconf.der
+device done net 40
+device ask net 40
+send "Another one asks (cr), and has to wait (cp, waiting)" net/cr.der net/waiting.der
+device poll net 40
+send "It asks how it stands (pollReq), and has to wait (pollRep)" net/pollreq.der net/pollrep.der
+device again net 40
+printf 'The operator releases the request, while the authority serves\n  $ echo release 606162636465666768696a6b6c6d6e6f >>orders\n'
+echo release 606162636465666768696a6b6c6d6e6f >>orders
+for _ in $(seq 600); do
+    if "$program" journal key show 2>/dev/null | grep -q '^released 606162636465666768696a6b6c6d6e6f$'; then break; fi
+    sleep 0.1
+done
+send "It asks once more (pollReq), and gets its certificate (cp)" net/again.der net/cp.der
+device fetch net 40
+
+status=0
+wait "$server" || status=$?
+server=
+printf 'All five connections were served\n  %s\n  status %s\n' "$(cat summary)" "$status"
+if [ "$status" != 0 ] || [ "$(cat summary)" != "connections 5
+changes 16
+orders 1 done 0 refused" ]; then
+    printf '  but this was told: connections 5, changes 16, orders 1 done 0 refused, status 0; %s\n' "$(cat said)"
+    failed=1
+fi
+show "How it stands, over files and over HTTP one history" "" "changes 16
+issue 7 of 32
+reply 1 of 32
+cert 3 revoked 4 000102030405060708090a0b0c0d0e0f
+cert 4 confirmed 101112131415161718191a1b1c1d1e1f
+cert 5 confirmed 202122232425262728292a2b2c2d2e2f
+cert 6 confirmed 404142434445464748494a4b4c4d4e4f
+cert 7 confirmed 606162636465666768696a6b6c6d6e6f" 0 journal key show
 
 exit $failed

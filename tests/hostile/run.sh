@@ -1,6 +1,6 @@
 #!/bin/sh
 # Lets `cmpca` meet what is hostile or fails, and looks that nothing is lost or given twice.
-# Words: the program, or none (or "") for the one that is built from crates/cmpca; then a part (damaged, filled, killed or mutated)
+# Words: the program, or none (or "") for the one that is built from crates/cmpca; then a part (damaged, filled, killed, served or mutated)
 # and its number, or none for all parts with small numbers.
 # Without Python it is skipped, with a line that says so.
 set -eu
@@ -31,5 +31,6 @@ failed=0
 part damaged 3 || failed=1
 part filled 50 || failed=1
 part killed 200 || failed=1
+part served 100 || failed=1
 part mutated 300 || failed=1
 exit $failed

@@ -1,11 +1,11 @@
 """Devices in Python's hashlib, hmac and os alone, whose messages and keys stand in a folder of files.
 
-Words: the step and the folder. Device 1 enrols under a shared secret: `request` writes ir.der, for a new HSS/LMS key; `confirm` reads
-ip.der, checks its MAC and the certificate's signature, and writes certconf.der; `done` reads pkiconf.der. Then `renew` writes
-kur.der, for a second key under a signature of the first; `renewed` reads kup.der and checks its signature and the certificate.
-Device 2 has to wait: `ask` writes cr.der; `poll` reads waiting.der and writes pollreq.der; `again` reads pollrep.der and writes
-again.der; `fetch` reads cp.der. At last device 1 gives its first certificate up: `revoke` writes rr.der, `revoked` reads rp.der. Each
-says what it did, and ends with status 1 where a check fails.
+Words: the step, the folder, and the first octet in hex from which the transactionIDs are numbered, or none for 00. Device 1 enrols under
+a shared secret: `request` writes ir.der, for a new HSS/LMS key; `confirm` reads ip.der, checks its MAC and the certificate's signature,
+and writes certconf.der; `done` reads pkiconf.der. Then `renew` writes kur.der, for a second key under a signature of the first;
+`renewed` reads kup.der and checks its signature and the certificate. Device 2 has to wait: `ask` writes cr.der; `poll` reads waiting.der
+and writes pollreq.der; `again` reads pollrep.der and writes again.der; `fetch` reads cp.der. At last device 1 gives its first certificate
+up: `revoke` writes rr.der, `revoked` reads rp.der. Each says what it did, and ends with status 1 where a check fails.
 """
 
 import os
@@ -16,16 +16,25 @@ from cmp_messages import (
     message, oid, polls, reason, revocation, revocations, sequence, serial_of, signed_by, u32)
 
 DEVICE_1, DEVICE_2 = Secret("dev-1", b"secret-1", 1000), Secret("dev-2", b"secret-2", 1000)
-ENROLMENT, RENEWAL, WAITING, REVOCATION = (bytes(range(start, start + 16)) for start in (0x00, 0x10, 0x20, 0x30))
+# Where the transactionIDs of the four transactions begin, where the first one's is 00
+ENROLMENT, RENEWAL, WAITING, REVOCATION = 0x00, 0x10, 0x20, 0x30
 IMPLICIT = sequence(sequence(oid("1.3.6.1.5.5.7.4.13"), NULL))
 SUPERSEDED = 4
+
+
+def tid_at(start):
+    """A transactionID of 16 octets, of which each is the next number."""
+    return bytes(range(start, start + 16))
 
 
 class Folder:
     """Files by their names. A key's file is its seed, its identifier and the number of leaves that signed."""
 
-    def __init__(self, path):
-        self.path = path
+    def __init__(self, path, start=0x00):
+        self.path, self.start = path, start
+
+    def tid(self, of):
+        return tid_at(self.start + of)
 
     def read(self, name):
         with open(os.path.join(self.path, name), "rb") as file:
@@ -52,14 +61,14 @@ def new_key(seed=None, identifier=None, used=0):
     return Key("device", ots=4, seed=seed, identifier=identifier, used=used)
 
 
-def ask_for(key):
+def ask_for(key, tid):
     """An ir for a certificate over this key, which signs the request."""
-    return message(DEVICE_1, enrolment(IR, key), tid=ENROLMENT)
+    return message(DEVICE_1, enrolment(IR, key), tid=tid)
 
 
 def request():
     """An ir for a new key, in octets."""
-    return ask_for(new_key()).octets
+    return ask_for(new_key(), tid_at(ENROLMENT)).octets
 
 
 def tell(what, holds):
@@ -74,7 +83,7 @@ def tell_certificate(reply, root):
 
 def begin(folder):
     key = new_key()
-    sent = ask_for(key)
+    sent = ask_for(key, folder.tid(ENROLMENT))
     folder.keep("first", key)
     return folder.send("ir.der", sent)
 
@@ -83,7 +92,7 @@ def confirm(folder):
     reply = Reply(folder.read("ip.der"))
     holds = tell("MAC of the ip", reply.holds_under(DEVICE_1)) and tell_certificate(reply, reply.root())
     accepts = confirmations(confirmation(reply.certificate(), status=0))
-    return holds and folder.send("certconf.der", message(DEVICE_1, accepts, tid=ENROLMENT, received=reply.fields[0xA5]))
+    return holds and folder.send("certconf.der", message(DEVICE_1, accepts, tid=folder.tid(ENROLMENT), received=reply.fields[0xA5]))
 
 
 def done(folder):
@@ -95,7 +104,7 @@ def renew(folder):
     first, second = folder.key("first"), new_key()
     serial = serial_of(Reply(folder.read("ip.der")).certificate())
     old = sequence(sequence(oid("1.3.6.1.5.5.7.5.1.5"), sequence(directory_name(AUTHORITY), integer(serial))))
-    sent = message(first, enrolment(KUR, second, controls=old), tid=RENEWAL, info=IMPLICIT)
+    sent = message(first, enrolment(KUR, second, controls=old), tid=folder.tid(RENEWAL), info=IMPLICIT)
     folder.keep("first", first)
     folder.keep("second", second)
     return folder.send("kur.der", sent)
@@ -108,13 +117,13 @@ def renewed(folder):
 
 def ask(folder):
     key = new_key()
-    sent = message(DEVICE_2, enrolment(CR, key), tid=WAITING, info=IMPLICIT)
+    sent = message(DEVICE_2, enrolment(CR, key), tid=folder.tid(WAITING), info=IMPLICIT)
     folder.keep("third", key)
     return folder.send("cr.der", sent)
 
 
 def poll_after(folder, reply, name):
-    return folder.send(name, message(DEVICE_2, polls(0), tid=WAITING, received=reply.fields[0xA5]))
+    return folder.send(name, message(DEVICE_2, polls(0), tid=folder.tid(WAITING), received=reply.fields[0xA5]))
 
 
 def poll(folder):
@@ -137,7 +146,7 @@ def fetch(folder):
 
 def revoke(folder):
     entry = revocation(*issued(serial_of(Reply(folder.read("ip.der")).certificate())), details=[reason(SUPERSEDED)])
-    return folder.send("rr.der", message(DEVICE_1, revocations(entry), tid=REVOCATION))
+    return folder.send("rr.der", message(DEVICE_1, revocations(entry), tid=folder.tid(REVOCATION)))
 
 
 def revoked(folder):
@@ -149,4 +158,4 @@ STEPS = {"request": begin, "confirm": confirm, "done": done, "renew": renew, "re
          "again": again, "fetch": fetch, "revoke": revoke, "revoked": revoked}
 
 if __name__ == "__main__":
-    sys.exit(0 if STEPS[sys.argv[1]](Folder(sys.argv[2])) else 1)
+    sys.exit(0 if STEPS[sys.argv[1]](Folder(sys.argv[2], *(int(word, 16) for word in sys.argv[3:]))) else 1)
